@@ -15,7 +15,7 @@ use Rattle.definition.specs.Instructions.{Sig, Chunk, Instr}
 use Rattle.definition.specs.Ops.{Row, ops, Op, instr}
 use Rattle.definition.specs.Module.{Slot, shared, private, Shared, Private, Code, Header, Module, under-check}
 use Rattle.bytecode.specs.Tables.{row-at, cap}
-use Rattle.bytecode.specs.Lists.{limited, tabulate, tabulate-length, tabulate-some, tabulate-none, tabulate-map}
+use Rattle.bytecode.specs.Lists.{limited, limited-le, tabulate, tabulate-length, tabulate-some, tabulate-none, tabulate-map}
 
 -- word j of row i of table k; the rows of table k
 abbrev pub cell : List ℕ → ℕ → ℕ → ℕ → ℕ
@@ -195,3 +195,39 @@ module _ (t : List ℕ) (k : ℕ) where
 
   pub code-none : (p : ℕ) → op-count t k ≤ p → getElem? (chunkOf t k .code) p ≡ none
   code-none p h = ap (λ (l : List Instr). getElem? l p) code-is ∙ tabulate-none (first-op t k) (op-count t k) (instrAt t) p h
+
+-- ── Bounds ────────────────────────────────────────────────────────────────────────────────
+
+pub count-low : (t : List ℕ) (k : ℕ) → count t k ≤ cap k
+unfolding count
+count-low t k = limited-le (cap k) (getD t k 0)
+
+module _ (t : List ℕ) (table j k : ℕ) where
+  pub first-low : firstAt t table j k ≤ count t table
+  unfolding firstAt
+  first-low = limited-le (count t table) (cell t 7 k j)
+
+  pub end-low : endAt t table j k ≤ count t table
+  unfolding endAt choose firstAt
+  end-low = go (ltb (k + 1) (count t 7))
+    where
+      go : (b : Bool) → choose b (firstAt t table j (k + 1)) (count t table) ≤ count t table
+      go true = limited-le (count t table) (cell t 7 (k + 1) j)
+      go false = omega arith
+
+pub locals-low : (t : List ℕ) (k : ℕ) → localsAt t k ≤ 32
+unfolding localsAt
+locals-low t k = limited-le 32 (cell t 7 k 1)
+
+module _ (t : List ℕ) where
+  pub word-low : headerOf t .word ≤ 8
+  unfolding headerOf
+  word-low = limited-le 8 (cell t 0 0 1)
+
+  pub float-low : headerOf t .float ≤ 8
+  unfolding headerOf
+  float-low = limited-le 8 (cell t 0 0 2)
+
+  pub address-low : headerOf t .address-log ≤ 6
+  unfolding headerOf
+  address-low = limited-le 6 (cell t 0 0 3)

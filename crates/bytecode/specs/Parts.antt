@@ -3,13 +3,19 @@ use mathlib.Core.Path.{_≡_, refl, sym, ap, _∙_}
 use mathlib.Core.Bool.{Bool, true, false, _&&_}
 use mathlib.Core.Option.{Option, none, some}
 use mathlib.Core.List.{List, [], _∷_, map}
-use Prim.Native.Nat.{ℕ, zero, suc, _+_, _≤_, _<_}
+use Prim.Native.Nat.{ℕ, zero, suc, _+_, _-_, _≤_, _<_}
+use lib.Dec.{ltb}
 use lib.ListN.{length, getD}
-use Rattle.definition.specs.Shapes.{Shape, unknown, scalar, composite}
+use Rattle.definition.specs.Basics.{saturating-add}
+use Rattle.definition.specs.Shapes.{Shape, unknown, scalar, composite, from-wire}
 use Rattle.definition.specs.Instructions.{Instr as AnyInstr}
 use Rattle.definition.specs.Ops.{instr}
 use Rattle.definition.specs.Module.{Shared, Private, Header as AnyHeader}
-use Rattle.bytecode.specs.Meaning.{instrAt, opAt, maxima-of}
+use Rattle.bytecode.specs.Tables.{cap}
+use Rattle.bytecode.specs.Meaning.{cell, count, headerOf, enumsOf, wireOf, firstAt, endAt, instrAt, opAt, maxima-of}
+use Rattle.bytecode.specs.declared.Span.{Span}
+use Rattle.bytecode.specs.declared.Constant.{Constant}
+use Rattle.bytecode.specs.declared.Constant.the-variants.{Kind, Missing}
 use Rattle.bytecode.specs.declared.Header.{Header}
 use Rattle.bytecode.specs.declared.SharedEntry.{SharedEntry}
 use Rattle.bytecode.specs.declared.PrivateEntry.{PrivateEntry}
@@ -36,10 +42,28 @@ unfoldable pub private-of : PrivateEntry → Private
 private-of s = record { slot = s .slot; offset = s .offset }
 
 -- A declared composite's places are unknown.
-unfoldable pub shape-of : WireShape → Shape
-shape-of Unknown = unknown
-shape-of (Scalar k) = scalar k
-shape-of (Composite k n) = composite k n none
+unfoldable pub declared-shape : WireShape → Shape
+declared-shape Unknown = unknown
+declared-shape (Scalar k) = scalar k
+declared-shape (Composite k n) = composite k n none
+
+-- Shape j of signature k: 1 is RET, 2 RESUME, and the parameters follow.
+unfoldable pub sig-shape : List ℕ → ℕ → ℕ → Shape
+sig-shape t k j = elim (ltb k (count t 6)) [ true ↦ from-wire (wireOf (cell t 6 k j)) | false ↦ unknown ]
+
+-- "W + MIN" of each enum
+unfoldable pub enum-sizesOf : List ℕ → List ℕ
+enum-sizesOf t = map (saturating-add (headerOf t .word)) (enumsOf t)
+
+-- The rows of a table that are chunk k's.
+pub record Span-is (t : List ℕ) (table j k : ℕ) (r : Span) : Type 0 where
+  pub first-is : r .first ≡ firstAt t table j k
+  pub count-is : r .count ≡ endAt t table j k - firstAt t table j k
+  pub within : r .first + r .count ≤ cap table
+
+unfoldable pub constant-of : Constant → Option ℕ
+constant-of (Kind k) = some k
+constant-of Missing = none
 
 -- The instruction of a row and three operands; a row that has fewer does not read the rest.
 unfoldable pub instrOf : Instr → AnyInstr

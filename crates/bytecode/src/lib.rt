@@ -1,14 +1,17 @@
 // The tables of a module, in one lent slice of words: word k counts the rows of table k, whose rows stand from BASES[k] on.
 ghost use mathlib.Core.Path.{_≡_};
 ghost use Prim.Native.Nat.{ℕ, _+_, _*_, _-_, _<_, _≤_};
+ghost use mathlib.Core.List.{map};
 ghost use lib.ListN.{length, getD, getElem?};
 ghost use Rattle.definition.specs.Format.{bits};
-ghost use Rattle.definition.specs.Basics.{is-member};
+ghost use Rattle.definition.specs.Basics.{is-member, saturating-add};
 ghost use Rattle.definition.specs.Shapes.{from-wire, unknown};
+ghost use Rattle.definition.specs.Module.{no-sig};
+ghost use Rattle.definition.specs.Effects.{shape-of, returned, returned-native};
 ghost use Rattle.bytecode.specs.Tables.{tables, stride, cap, base, size, row-at, Appended};
 ghost use Rattle.bytecode.specs.Lists.{limited};
-ghost use Rattle.bytecode.specs.Meaning.{count as countOf, headerOf, slotAt, slot-of, sharedAt, privateAt, enumAt, wireOf, localsAt, firstAt, endAt, first-op, op-count};
-ghost use Rattle.bytecode.specs.Parts.{header-of, shared-of, private-of, shape-of, Instr-is};
+ghost use Rattle.bytecode.specs.Meaning.{count as countOf, headerOf, slotAt, slot-of, sharedAt, privateAt, enumAt, wireOf, localsAt, firstAt, endAt, nativesOf, sigsOf, chunkOf};
+ghost use Rattle.bytecode.specs.Parts.{header-of, shared-of, private-of, declared-shape, sig-shape, enum-sizesOf, Span-is, constant-of, Instr-is};
 
 pub mod ops;
 
@@ -209,7 +212,7 @@ pub enum WireShape {
 
 // The shape of a wire word: 2 bits say which, then 8 bits of K, then SIZE.
 fn shape_of_word(w: u64) -> WireShape
-    ensures { λ r. ⌜ shape-of r ≡ from-wire (wireOf w) ⌝ }
+    ensures { λ r. ⌜ declared-shape r ≡ from-wire (wireOf w) ⌝ }
 {
     let tag = w % 4;
     let k = (w / 4 % 256) as u8;
@@ -228,12 +231,176 @@ fn shape_of_word(w: u64) -> WireShape
     WireShape::Unknown
 }
 
+// What native k is declared to return; unknown where there is none.
+pub fn native_shape(t: &[u64], k: usize) -> WireShape
+    ensures { λ r. ⌜ declared-shape r ≡ shape-of (returned-native (getElem? (nativesOf (now (t .entry))) k)) ⌝ }
+{
+    if k < count(t, 5) {
+        return shape_of_word(cell(t, 5, k, 1));
+    }
+    WireShape::Unknown
+}
+
+// Shape j of signature k: 1 is what it returns, 2 what it resumes with; unknown where there is no such signature.
+fn sig_shape(t: &[u64], k: usize, j: usize) -> WireShape
+    requires { ⌜ j < 19 ⌝ }
+    ensures { λ r. ⌜ declared-shape r ≡ sig-shape (now (t .entry)) k j ⌝ }
+{
+    if k < count(t, 6) {
+        return shape_of_word(cell(t, 6, k, j));
+    }
+    WireShape::Unknown
+}
+
+pub fn sig_return(t: &[u64], k: usize) -> WireShape
+    ensures { λ r. ⌜ declared-shape r ≡ shape-of (returned (getElem? (sigsOf (now (t .entry))) k)) ⌝ }
+{
+    sig_shape(t, k, 1)
+}
+
+pub fn sig_resume(t: &[u64], k: usize) -> WireShape
+    ensures { λ r. ⌜ declared-shape r ≡ from-wire (getD (sigsOf (now (t .entry))) k no-sig .resume) ⌝ }
+{
+    sig_shape(t, k, 2)
+}
+
+// The number of parameters of signature k; 0 where there is no such signature.
+pub fn sig_params(t: &[u64], k: usize) -> usize
+    ensures { λ r. ⌜ (r ≡ length (getD (sigsOf (now (t .entry))) k no-sig .params)) × (r ≤ 16) ⌝ }
+{
+    if k < count(t, 6) {
+        let n = cell(t, 6, k, 0);
+        if n < 2 {
+            return 0;
+        }
+        return limited64(n - 2, 16);
+    }
+    0
+}
+
+// Parameter j of signature k; unknown where there is none.
+pub fn sig_param(t: &[u64], k: usize, j: usize) -> WireShape
+    ensures { λ r. ⌜ declared-shape r ≡ getD (map from-wire (getD (sigsOf (now (t .entry))) k no-sig .params)) j unknown ⌝ }
+{
+    if j < sig_params(t, k) {
+        return sig_shape(t, k, j + 3);
+    }
+    WireShape::Unknown
+}
+
+fn enum_size(w: u8, m: u32) -> u32
+    ensures { λ r. ⌜ r ≡ saturating-add w m ⌝ }
+{
+    limited32((w as u64) + (m as u64), 4294967295)
+}
+
+// Whether a body of s bytes is an enum's: W + MIN of one.
+pub fn has_enum_size(t: &[u64], s: u32) -> bool
+    ensures { λ r. ⌜ r ≡ is-member s (enum-sizesOf (now (t .entry))) ⌝ }
+{
+    let n = count(t, 4);
+    let w = limited8(word(t, 17), 8);
+    let mut i = 0;
+    while i < n {
+        let m = enum_min(t, i);
+        if s == enum_size(w, m) {
+            return true;
+        }
+        i += 1;
+    }
+    false
+}
+
 // LOCALS of chunk k.
 pub fn locals(t: &[u64], k: usize) -> usize
     requires { ⌜ k < 64 ⌝ }
     ensures { λ r. ⌜ r ≡ localsAt (now (t .entry)) k ⌝ }
 {
     limited64(cell(t, 7, k, 1), 32)
+}
+
+// A stretch of a table: its first row, and how many rows.
+pub struct Span {
+    pub first: usize,
+    pub count: usize,
+}
+
+fn wide(x: usize) -> u64
+    ensures { λ r. ⌜ r ≡ x ⌝ }
+{
+    x as u64
+}
+
+// Where the rows of chunk k begin in a table: word j of the chunk's row.
+fn first_at(t: &[u64], table: usize, j: usize, k: usize) -> usize
+    requires { ⌜ (k < 64) × (table < tables) × (j < 19) ⌝ }
+    ensures { λ r. ⌜ r ≡ firstAt (now (t .entry)) table j k ⌝ }
+{
+    let n = count(t, table);
+    limited64(cell(t, 7, k, j), wide(n))
+}
+
+// They end where those of the next chunk begin, and those of the last chunk where the table ends.
+fn end_at(t: &[u64], table: usize, j: usize, k: usize) -> usize
+    requires { ⌜ (k < 64) × (table < tables) × (j < 19) ⌝ }
+    ensures { λ r. ⌜ r ≡ endAt (now (t .entry)) table j k ⌝ }
+{
+    let next = k + 1;
+    if next < count(t, 7) {
+        return first_at(t, table, j, next);
+    }
+    count(t, table)
+}
+
+fn span_of(t: &[u64], table: usize, j: usize, k: usize) -> Span
+    requires { ⌜ (k < 64) × (table < tables) × (j < 19) ⌝ }
+    ensures { λ r. ⌜ Span-is (now (t .entry)) table j k r ⌝ }
+{
+    let first = first_at(t, table, j, k);
+    let end = end_at(t, table, j, k);
+    if end < first {
+        return Span { first: first, count: 0 };
+    }
+    Span {
+        first: first,
+        count: end - first,
+    }
+}
+
+// The constants of chunk k among all.
+pub fn constants_of(t: &[u64], k: usize) -> Span
+    requires { ⌜ k < 64 ⌝ }
+    ensures { λ r. ⌜ Span-is (now (t .entry)) 8 2 k r ⌝ }
+{
+    span_of(t, 8, 2, k)
+}
+
+// The instructions of chunk k among all.
+pub fn instructions_of(t: &[u64], k: usize) -> Span
+    requires { ⌜ k < 64 ⌝ }
+    ensures { λ r. ⌜ Span-is (now (t .entry)) 9 3 k r ⌝ }
+{
+    span_of(t, 9, 3, k)
+}
+
+pub enum Constant {
+    Kind(u8),
+    Missing,
+}
+
+// Constant j of chunk k.
+pub fn constant_at(t: &[u64], k: usize, j: usize) -> Constant
+    requires { ⌜ k < 64 ⌝ }
+    ensures { λ r. ⌜ constant-of r ≡ getElem? (chunkOf (now (t .entry)) k .consts) j ⌝ }
+{
+    let s = span_of(t, 8, 2, k);
+    let first = s.first;
+    let n = s.count;
+    if j < n {
+        let kind = limited8(cell(t, 8, first + j, 1), 255);
+        return Constant::Kind(kind);
+    }
+    Constant::Missing
 }
 
 pub struct Instr {
