@@ -138,7 +138,11 @@ fn two_arms(t: &[u64], code: Code, inner: Open, p: u16, middle: u16, closer: u16
     }
     if ends_if(t, code, inner, p, closer) {
         let target = inner.target;
-        return Step::Push(Open { middle: middle, closer: closer, target: target });
+        return Step::Push(Open {
+            middle: middle,
+            closer: closer,
+            target: target,
+        });
     }
     Step::Bad
 }
@@ -150,7 +154,11 @@ fn one_arm(t: &[u64], code: Code, inner: Open, p: u16, closer: u16) -> Step
 {
     if ends_if(t, code, inner, p, closer) {
         let target = inner.target;
-        return Step::Push(Open { middle: closer, closer: closer, target: target });
+        return Step::Push(Open {
+            middle: closer,
+            closer: closer,
+            target: target,
+        });
     }
     Step::Bad
 }
@@ -179,7 +187,11 @@ fn loop_step(t: &[u64], code: Code, inner: Open, p: u16, target: u16) -> Step
     }
     let closer = target - 1;
     if ends_loop(t, code, inner, p, closer) {
-        return Step::Push(Open { middle: closer, closer: closer, target: target });
+        return Step::Push(Open {
+            middle: closer,
+            closer: closer,
+            target: target,
+        });
     }
     Step::Bad
 }
@@ -272,7 +284,11 @@ fn check_code(
         let middle = middles[h];
         let closer = closers[h];
         let target = targets[h];
-        let inner = Open { middle: middle, closer: closer, target: target };
+        let inner = Open {
+            middle: middle,
+            closer: closer,
+            target: target,
+        };
         let s = step_at(t, code, inner, p);
         match s {
             Step::Bad => return ChunkNesting::Broken(p),
@@ -306,7 +322,10 @@ fn code_of(t: &[u64], k: usize) -> Code
     let s = bytecode::instructions_of(t, k);
     let first = s.first;
     let size = s.count as u16;
-    Code { first: first, size: size }
+    Code {
+        first: first,
+        size: size,
+    }
 }
 
 // What was found first in the chunks before k, or what chunk k adds.

@@ -36,10 +36,16 @@ slice-write-targets c = search needs
 
 -- src/lib.rt:271:5
 loop-holds : tie.Need-loop-holds Inv-loop μ-loop
-loop-holds c =
-    (omega arith, omega arith, search needs, search needs, search needs, λ d C. start d (c .before .before .before .before .args .t .now) (c .before .before .before .before .args .code) C (c .before .before .before .before .args .middles .now) (c .before .before .before .before .args .closers .now) (c .before .before .before .before .args .targets .now)
-    (omega arith) (omega arith)
-    (omega arith))
+loop-holds c = (
+  omega arith,
+  omega arith,
+  search needs,
+  search needs,
+  search needs,
+  λ d C. start d (c .before .before .before .before .args .t .now) (c .before .before .before .before .args .code) C (c .before .before .before .before .args .middles .now) (c .before .before .before .before .args .closers .now) (c .before .before .before .before .args .targets .now)
+      (omega arith) (omega arith)
+      (omega arith),
+)
 
 -- src/lib.rt:272:22
 mul-middle : tie.Need-mul-middle Inv-loop μ-loop
@@ -108,13 +114,18 @@ loop-less c = search needs
 
 -- src/lib.rt:271:5
 loop-again : tie.Need-loop-again Inv-loop μ-loop
-loop-again c =
-    (omega arith, omega arith, search needs, search needs, search needs,
-    λ d C.
-    let S = c .before .before .before .before .before .before .before .loop .inv .5 d C in
-    stay d (c .before .before .before .before .before .before .before .before .before .before .before .before .args .t .now) (c .before .before .before .before .before .before .before .before .before .before .before .before .args .code) C (c .before .before .before .before .before .before .before .loop .middles) (c .before .before .before .before .before .before .before .loop .closers) (c .before .before .before .before .before .before .before .loop .targets) (c .before .before .before .before .before .before .before .loop .p) (c .before .before .before .before .before .before .before .loop .h) (c .before .before .before .before .before .before .before .loop .found) S
-    (subst (Good d (c .before .before .before .before .before .before .before .loop .p) (getD (c .before .before .before .before .before .before .before .loop .closers) (c .before .before .before .before .before .before .before .loop .h) 0)) (c .enum-told2 .given .1)
-    (c .before .before .step-at .ensures d (here d (c .before .before .before .before .before .before .before .before .before .before .before .before .args .t .now) (c .before .before .before .before .before .before .before .before .before .before .before .before .args .code) C (c .before .before .before .before .before .before .before .loop .middles) (c .before .before .before .before .before .before .before .loop .closers) (c .before .before .before .before .before .before .before .loop .targets) (c .before .before .before .before .before .before .before .loop .p) (c .before .before .before .before .before .before .before .loop .h) (c .before .before .before .before .before .before .before .loop .found) S (c .before .before .before .before .before .before .loop-test .taken)))))
+loop-again c = (
+  omega arith,
+  omega arith,
+  search needs,
+  search needs,
+  search needs,
+  λ d C.
+      let S = c .before .before .before .before .before .before .before .loop .inv .5 d C in
+      stay d (c .before .before .before .before .before .before .before .before .before .before .before .before .args .t .now) (c .before .before .before .before .before .before .before .before .before .before .before .before .args .code) C (c .before .before .before .before .before .before .before .loop .middles) (c .before .before .before .before .before .before .before .loop .closers) (c .before .before .before .before .before .before .before .loop .targets) (c .before .before .before .before .before .before .before .loop .p) (c .before .before .before .before .before .before .before .loop .h) (c .before .before .before .before .before .before .before .loop .found) S
+      (subst (Good d (c .before .before .before .before .before .before .before .loop .p) (getD (c .before .before .before .before .before .before .before .loop .closers) (c .before .before .before .before .before .before .before .loop .h) 0)) (c .enum-told2 .given .1)
+      (c .before .before .step-at .ensures d (here d (c .before .before .before .before .before .before .before .before .before .before .before .before .args .t .now) (c .before .before .before .before .before .before .before .before .before .before .before .before .args .code) C (c .before .before .before .before .before .before .before .loop .middles) (c .before .before .before .before .before .before .before .loop .closers) (c .before .before .before .before .before .before .before .loop .targets) (c .before .before .before .before .before .before .before .loop .p) (c .before .before .before .before .before .before .before .loop .h) (c .before .before .before .before .before .before .before .loop .found) S (c .before .before .before .before .before .before .loop-test .taken)))),
+)
 
 -- src/lib.rt:283:20
 enum-told-3 : tie.Need-enum-told-3 Inv-loop μ-loop
@@ -137,9 +148,12 @@ returns-2 : tie.Need-returns-2 Inv-loop μ-loop
 returns-2 c =
     λ d C.
     let S = c .before .before .before .before .before .before .before .before .loop .inv .5 d C in
-    absurd (omega (arith, pop-some d (c .before .before .before .before .before .before .before .before .before .before .before .before .before .args .t .now) (c .before .before .before .before .before .before .before .before .before .before .before .before .before .args .code) C (c .before .before .before .before .before .before .before .before .loop .middles) (c .before .before .before .before .before .before .before .before .loop .closers) (c .before .before .before .before .before .before .before .before .loop .targets) (c .before .before .before .before .before .before .before .before .loop .p) (c .before .before .before .before .before .before .before .before .loop .h) (c .before .before .before .before .before .before .before .before .loop .found) S (c .before .before .before .before .before .before .before .loop-test .taken)
-    (subst (Good d (c .before .before .before .before .before .before .before .before .loop .p) (getD (c .before .before .before .before .before .before .before .before .loop .closers) (c .before .before .before .before .before .before .before .before .loop .h) 0)) (c .before .enum-told3 .given .1)
-    (c .before .before .before .step-at .ensures d (here d (c .before .before .before .before .before .before .before .before .before .before .before .before .before .args .t .now) (c .before .before .before .before .before .before .before .before .before .before .before .before .before .args .code) C (c .before .before .before .before .before .before .before .before .loop .middles) (c .before .before .before .before .before .before .before .before .loop .closers) (c .before .before .before .before .before .before .before .before .loop .targets) (c .before .before .before .before .before .before .before .before .loop .p) (c .before .before .before .before .before .before .before .before .loop .h) (c .before .before .before .before .before .before .before .before .loop .found) S (c .before .before .before .before .before .before .before .loop-test .taken))))))
+    absurd (omega (
+      arith,
+      pop-some d (c .before .before .before .before .before .before .before .before .before .before .before .before .before .args .t .now) (c .before .before .before .before .before .before .before .before .before .before .before .before .before .args .code) C (c .before .before .before .before .before .before .before .before .loop .middles) (c .before .before .before .before .before .before .before .before .loop .closers) (c .before .before .before .before .before .before .before .before .loop .targets) (c .before .before .before .before .before .before .before .before .loop .p) (c .before .before .before .before .before .before .before .before .loop .h) (c .before .before .before .before .before .before .before .before .loop .found) S (c .before .before .before .before .before .before .before .loop-test .taken)
+          (subst (Good d (c .before .before .before .before .before .before .before .before .loop .p) (getD (c .before .before .before .before .before .before .before .before .loop .closers) (c .before .before .before .before .before .before .before .before .loop .h) 0)) (c .before .enum-told3 .given .1)
+          (c .before .before .before .step-at .ensures d (here d (c .before .before .before .before .before .before .before .before .before .before .before .before .before .args .t .now) (c .before .before .before .before .before .before .before .before .before .before .before .before .before .args .code) C (c .before .before .before .before .before .before .before .before .loop .middles) (c .before .before .before .before .before .before .before .before .loop .closers) (c .before .before .before .before .before .before .before .before .loop .targets) (c .before .before .before .before .before .before .before .before .loop .p) (c .before .before .before .before .before .before .before .before .loop .h) (c .before .before .before .before .before .before .before .before .loop .found) S (c .before .before .before .before .before .before .before .loop-test .taken)))),
+    ))
 
 -- src/lib.rt:286:17
 sub-h : tie.Need-sub-h Inv-loop μ-loop
@@ -155,13 +169,18 @@ loop-less-2 c = search needs
 
 -- src/lib.rt:271:5
 loop-again-2 : tie.Need-loop-again-2 Inv-loop μ-loop
-loop-again-2 c =
-    (omega arith, omega arith, search needs, search needs, search needs,
-    λ d C.
-    let S = c .before .before .before .before .before .before .before .before .loop .inv .5 d C in
-    pop d (c .before .before .before .before .before .before .before .before .before .before .before .before .before .args .t .now) (c .before .before .before .before .before .before .before .before .before .before .before .before .before .args .code) C (c .before .before .before .before .before .before .before .before .loop .middles) (c .before .before .before .before .before .before .before .before .loop .closers) (c .before .before .before .before .before .before .before .before .loop .targets) (c .before .before .before .before .before .before .before .before .loop .p) (c .before .before .before .before .before .before .before .before .loop .h) (c .before .before .before .before .before .before .before .before .loop .found) S (c .before .before .before .before .before .before .before .loop-test .taken)
-    (subst (Good d (c .before .before .before .before .before .before .before .before .loop .p) (getD (c .before .before .before .before .before .before .before .before .loop .closers) (c .before .before .before .before .before .before .before .before .loop .h) 0)) (c .before .enum-told3 .given .1)
-    (c .before .before .before .step-at .ensures d (here d (c .before .before .before .before .before .before .before .before .before .before .before .before .before .args .t .now) (c .before .before .before .before .before .before .before .before .before .before .before .before .before .args .code) C (c .before .before .before .before .before .before .before .before .loop .middles) (c .before .before .before .before .before .before .before .before .loop .closers) (c .before .before .before .before .before .before .before .before .loop .targets) (c .before .before .before .before .before .before .before .before .loop .p) (c .before .before .before .before .before .before .before .before .loop .h) (c .before .before .before .before .before .before .before .before .loop .found) S (c .before .before .before .before .before .before .before .loop-test .taken)))))
+loop-again-2 c = (
+  omega arith,
+  omega arith,
+  search needs,
+  search needs,
+  search needs,
+  λ d C.
+      let S = c .before .before .before .before .before .before .before .before .loop .inv .5 d C in
+      pop d (c .before .before .before .before .before .before .before .before .before .before .before .before .before .args .t .now) (c .before .before .before .before .before .before .before .before .before .before .before .before .before .args .code) C (c .before .before .before .before .before .before .before .before .loop .middles) (c .before .before .before .before .before .before .before .before .loop .closers) (c .before .before .before .before .before .before .before .before .loop .targets) (c .before .before .before .before .before .before .before .before .loop .p) (c .before .before .before .before .before .before .before .before .loop .h) (c .before .before .before .before .before .before .before .before .loop .found) S (c .before .before .before .before .before .before .before .loop-test .taken)
+      (subst (Good d (c .before .before .before .before .before .before .before .before .loop .p) (getD (c .before .before .before .before .before .before .before .before .loop .closers) (c .before .before .before .before .before .before .before .before .loop .h) 0)) (c .before .enum-told3 .given .1)
+      (c .before .before .before .step-at .ensures d (here d (c .before .before .before .before .before .before .before .before .before .before .before .before .before .args .t .now) (c .before .before .before .before .before .before .before .before .before .before .before .before .before .args .code) C (c .before .before .before .before .before .before .before .before .loop .middles) (c .before .before .before .before .before .before .before .before .loop .closers) (c .before .before .before .before .before .before .before .before .loop .targets) (c .before .before .before .before .before .before .before .before .loop .p) (c .before .before .before .before .before .before .before .before .loop .h) (c .before .before .before .before .before .before .before .before .loop .found) S (c .before .before .before .before .before .before .before .loop-test .taken)))),
+)
 
 -- src/lib.rt:289:24
 enum-known-s : tie.Need-enum-known-s Inv-loop μ-loop
@@ -209,16 +228,21 @@ loop-less-3 c = search needs
 
 -- src/lib.rt:271:5
 loop-again-3 : tie.Need-loop-again-3 Inv-loop μ-loop
-loop-again-3 c =
-    (omega arith, omega arith, search needs, search needs, search needs,
-    λ d C.
-    let S = c .before .before .before .before .before .before .before .before .before .loop .inv .5 d C in
-    push d (c .before .before .before .before .before .before .before .before .before .before .before .before .before .before .args .t .now) (c .before .before .before .before .before .before .before .before .before .before .before .before .before .before .args .code) C (c .before .before .before .before .before .before .before .before .before .loop .middles) (c .before .before .before .before .before .before .before .before .before .loop .closers) (c .before .before .before .before .before .before .before .before .before .loop .targets) (c .before .before .before .before .before .before .before .before .before .loop .p) (c .before .before .before .before .before .before .before .before .before .loop .h) (c .before .before .before .before .before .before .before .before .before .loop .found) S _ (c .first-deep .result)
-    (omega arith) (omega arith)
-    (omega arith)
-    (subst (Good d (c .before .before .before .before .before .before .before .before .before .loop .p) (getD (c .before .before .before .before .before .before .before .before .before .loop .closers) (c .before .before .before .before .before .before .before .before .before .loop .h) 0)) (c .before .before .s .given .1)
-    (c .before .before .before .before .step-at .ensures d (here d (c .before .before .before .before .before .before .before .before .before .before .before .before .before .before .args .t .now) (c .before .before .before .before .before .before .before .before .before .before .before .before .before .before .args .code) C (c .before .before .before .before .before .before .before .before .before .loop .middles) (c .before .before .before .before .before .before .before .before .before .loop .closers) (c .before .before .before .before .before .before .before .before .before .loop .targets) (c .before .before .before .before .before .before .before .before .before .loop .p) (c .before .before .before .before .before .before .before .before .before .loop .h) (c .before .before .before .before .before .before .before .before .before .loop .found) S (c .before .before .before .before .before .before .before .before .loop-test .taken))))
-    (c .first-deep .ensures))
+loop-again-3 c = (
+  omega arith,
+  omega arith,
+  search needs,
+  search needs,
+  search needs,
+  λ d C.
+      let S = c .before .before .before .before .before .before .before .before .before .loop .inv .5 d C in
+      push d (c .before .before .before .before .before .before .before .before .before .before .before .before .before .before .args .t .now) (c .before .before .before .before .before .before .before .before .before .before .before .before .before .before .args .code) C (c .before .before .before .before .before .before .before .before .before .loop .middles) (c .before .before .before .before .before .before .before .before .before .loop .closers) (c .before .before .before .before .before .before .before .before .before .loop .targets) (c .before .before .before .before .before .before .before .before .before .loop .p) (c .before .before .before .before .before .before .before .before .before .loop .h) (c .before .before .before .before .before .before .before .before .before .loop .found) S _ (c .first-deep .result)
+      (omega arith) (omega arith)
+      (omega arith)
+      (subst (Good d (c .before .before .before .before .before .before .before .before .before .loop .p) (getD (c .before .before .before .before .before .before .before .before .before .loop .closers) (c .before .before .before .before .before .before .before .before .before .loop .h) 0)) (c .before .before .s .given .1)
+      (c .before .before .before .before .step-at .ensures d (here d (c .before .before .before .before .before .before .before .before .before .before .before .before .before .before .args .t .now) (c .before .before .before .before .before .before .before .before .before .before .before .before .before .before .args .code) C (c .before .before .before .before .before .before .before .before .before .loop .middles) (c .before .before .before .before .before .before .before .before .before .loop .closers) (c .before .before .before .before .before .before .before .before .before .loop .targets) (c .before .before .before .before .before .before .before .before .before .loop .p) (c .before .before .before .before .before .before .before .before .before .loop .h) (c .before .before .before .before .before .before .before .before .before .loop .found) S (c .before .before .before .before .before .before .before .before .loop-test .taken))))
+      (c .first-deep .ensures),
+)
 
 -- src/lib.rt:251:1
 same-length-7 : tie.Need-same-length-7 Inv-loop μ-loop
