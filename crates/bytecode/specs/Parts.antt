@@ -53,10 +53,6 @@ declared-shape (Composite k n) = composite k n none
 unfoldable pub sig-shape : List ℕ → ℕ → ℕ → Shape
 sig-shape t k j = elim (ltb k (count t 6)) [ true ↦ from-wire (wireOf (cell t 6 k j)) | false ↦ unknown ]
 
--- "W + MIN" of each enum
-unfoldable pub enum-sizesOf : List ℕ → List ℕ
-enum-sizesOf t = map (saturating-add (headerOf t .word)) (enumsOf t)
-
 -- The rows of a table that are chunk k's.
 pub record Span-is (t : List ℕ) (table j k : ℕ) (r : Span) : Type 0 where
   pub first-is : r .first ≡ firstAt t table j k

@@ -10,8 +10,8 @@ ghost use Rattle.definition.specs.Module.{no-sig};
 ghost use Rattle.definition.specs.Effects.{shape-of, returned, returned-native};
 ghost use Rattle.bytecode.specs.Tables.{tables, stride, cap, base, size, row-at, Appended};
 ghost use Rattle.bytecode.specs.Lists.{limited};
-ghost use Rattle.bytecode.specs.Meaning.{count as countOf, headerOf, slotAt, slot-of, sharedAt, privateAt, enumAt, wireOf, localsAt, firstAt, endAt, nativesOf, sigsOf, chunkOf};
-ghost use Rattle.bytecode.specs.Parts.{header-of, shared-of, private-of, declared-shape, sig-shape, enum-sizesOf, Span-is, constant-of, Instr-is, index-pushed, native-pushed, trap-need, Effect-is};
+ghost use Rattle.bytecode.specs.Meaning.{count as countOf, headerOf, slotAt, slot-of, sharedAt, privateAt, enumAt, wireOf, localsAt, firstAt, endAt, nativesOf, sigsOf, chunkOf, enum-sizesOf};
+ghost use Rattle.bytecode.specs.Parts.{header-of, shared-of, private-of, declared-shape, sig-shape, Span-is, constant-of, Instr-is, index-pushed, native-pushed, trap-need, Effect-is};
 ghost use lib.IntN.{pos, _-ℤ_};
 
 pub mod ops;

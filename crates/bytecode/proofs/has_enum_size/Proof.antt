@@ -5,7 +5,7 @@ use Rattle.definition.specs.Basics.{is-member, saturating-add}
 use Rattle.bytecode.specs.Tables.{cap, base, stride}
 use Rattle.bytecode.specs.Lists.{limited}
 use Rattle.bytecode.specs.Meaning.{count as countOf, count-low, headerOf}
-use Rattle.bytecode.specs.Parts.{enum-sizesOf}
+use Rattle.bytecode.specs.Meaning.{enum-sizesOf}
 use Rattle.bytecode.proofs.Laws.{Left, left-all, left-none, left-found, left-more}
 use Rattle.bytecode.proofs.has_enum_size.Statement.{statement}
 use Rattle.bytecode.proofs.has_enum_size.Tie as tie
