@@ -6,3 +6,4 @@ pub mod Operands
 pub mod Parts
 pub mod Fits
 pub mod Bridge
+pub mod Names
