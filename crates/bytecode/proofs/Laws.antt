@@ -22,9 +22,9 @@ use Rattle.bytecode.specs.Lists.{limited, limited-le, limited-same, limi
 use Rattle.bytecode.specs.Lists.{tabulate-past, tabulate-map}
 use Rattle.bytecode.specs.Meaning.{cell, count, wireOf, wire-of, instrAt, opAt, op-of, maxima-of, nativesOf, nativeAt, sigsOf, sigAt, params-at}
 use Rattle.bytecode.specs.Meaning.{enumsOf, enumAt, headerOf, chunkOf, codeOf, constAt, first-const, const-count, firstAt, endAt, count-low}
-use Rattle.bytecode.specs.Meaning.{first-low, end-low}
+use Rattle.bytecode.specs.Meaning.{first-low, end-low, enum-sizesOf}
 use Rattle.bytecode.specs.Operands.{three-enough}
-use Rattle.bytecode.specs.Parts.{instrOf, Instr-is, sig-shape, enum-sizesOf, Span-is}
+use Rattle.bytecode.specs.Parts.{instrOf, Instr-is, sig-shape, Span-is}
 use Rattle.bytecode.specs.declared.Instr.{Instr}
 use Rattle.bytecode.specs.declared.Span.{Span}
 

@@ -8,12 +8,12 @@ use Prim.Native.Nat.{ℕ, zero, suc, _+_, _-_, _*_, _/_, _%_, _≤_, _<_}
 use native.Mathlib.Omega.{arith}
 use lib.Dec.{eqb, ltb}
 use lib.ListN.{length, getD, getElem?}
-use Rattle.definition.specs.Basics.{choose}
+use Rattle.definition.specs.Basics.{choose, saturating-add}
 use Rattle.definition.specs.Shapes.{Wire, top, scalarW, flatW}
 use Rattle.definition.specs.Format.{bits}
 use Rattle.definition.specs.Instructions.{Sig, Chunk, Instr}
 use Rattle.definition.specs.Ops.{Row, ops, Op, instr}
-use Rattle.definition.specs.Module.{Slot, shared, private, Shared, Private, Code, Header, Module, under-check}
+use Rattle.definition.specs.Module.{Slot, shared, private, Shared, Private, Code, Header, Module, under-check, address-bytes, no-sig}
 use Rattle.bytecode.specs.Tables.{row-at, cap}
 use Rattle.bytecode.specs.Lists.{limited, limited-le, tabulate, tabulate-length, tabulate-some, tabulate-none, tabulate-map}
 
@@ -154,6 +154,10 @@ privatesOf t = tabulate 0 (count t 3) (privateAt t)
 unfoldable pub enumsOf : List ℕ → List ℕ
 enumsOf t = tabulate 0 (count t 4) (enumAt t)
 
+-- "W + MIN" of each enum
+unfoldable pub enum-sizesOf : List ℕ → List ℕ
+enum-sizesOf t = map (saturating-add (headerOf t .word)) (enumsOf t)
+
 unfoldable pub nativesOf : List ℕ → List Wire
 nativesOf t = tabulate 0 (count t 5) (nativeAt t)
 
@@ -179,6 +183,53 @@ chunkOf t k = under-check (moduleOf t) k (first-op t k) (codeOf t k)
 
 unfoldable pub chunksOf : List ℕ → List Chunk
 chunksOf t = tabulate 0 (count t 7) (chunkOf t)
+
+-- ── A chunk's parts ───────────────────────────────────────────────────────────────────────
+
+module _ (t : List ℕ) (k : ℕ) where
+  pub chunk-word : chunkOf t k .word ≡ headerOf t .word
+  unfolding chunkOf under-check moduleOf
+  chunk-word = refl
+
+  pub chunk-float : chunkOf t k .float ≡ headerOf t .float
+  unfolding chunkOf under-check moduleOf
+  chunk-float = refl
+
+  pub chunk-address : chunkOf t k .address ≡ address-bytes (headerOf t)
+  unfolding chunkOf under-check moduleOf
+  chunk-address = refl
+
+  pub chunk-index-trap : chunkOf t k .index-trap ≡ headerOf t .index-trap
+  unfolding chunkOf under-check moduleOf
+  chunk-index-trap = refl
+
+  pub chunk-host-trap : chunkOf t k .host-trap ≡ headerOf t .host-trap
+  unfolding chunkOf under-check moduleOf
+  chunk-host-trap = refl
+
+  pub chunk-enum-sizes : chunkOf t k .enum-sizes ≡ enum-sizesOf t
+  unfolding chunkOf under-check moduleOf enum-sizesOf
+  chunk-enum-sizes = refl
+
+  pub chunk-natives : chunkOf t k .natives ≡ nativesOf t
+  unfolding chunkOf under-check moduleOf
+  chunk-natives = refl
+
+  pub chunk-sigs : chunkOf t k .sigs ≡ sigsOf t
+  unfolding chunkOf under-check moduleOf
+  chunk-sigs = refl
+
+  pub chunk-sig : chunkOf t k .sig ≡ getD (sigsOf t) k no-sig
+  unfolding chunkOf under-check moduleOf
+  chunk-sig = refl
+
+  pub chunk-locals : chunkOf t k .locals ≡ localsAt t k
+  unfolding chunkOf under-check codeOf
+  chunk-locals = refl
+
+  pub chunk-base : chunkOf t k .base ≡ first-op t k
+  unfolding chunkOf under-check
+  chunk-base = refl
 
 -- ── A chunk's instructions ────────────────────────────────────────────────────────────────
 

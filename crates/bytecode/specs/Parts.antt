@@ -1,14 +1,15 @@
 -- What the code's own types mean.
 use mathlib.Core.Path.{_≡_, refl, sym, ap, _∙_}
-use mathlib.Core.Bool.{Bool, true, false, _&&_}
+use mathlib.Core.Bool.{Bool, true, false, _||_}
 use mathlib.Core.Option.{Option, none, some}
 use mathlib.Core.List.{List, [], _∷_, map}
 use Prim.Native.Nat.{ℕ, zero, suc, _+_, _-_, _≤_, _<_}
-use lib.Dec.{ltb}
+use lib.Dec.{leb, ltb, eqb}
 use lib.ListN.{length, getD}
-use Rattle.definition.specs.Basics.{saturating-add}
+use Rattle.definition.specs.Basics.{saturating-add, choose}
 use Rattle.definition.specs.Shapes.{Shape, unknown, scalar, composite, from-wire}
-use Rattle.definition.specs.Instructions.{Instr as AnyInstr}
+use Rattle.definition.specs.Instructions.{Instr as AnyInstr, Chunk}
+use Rattle.definition.specs.Effects.{need, net}
 use Rattle.definition.specs.Ops.{instr}
 use Rattle.definition.specs.Module.{Shared, Private, Header as AnyHeader}
 use Rattle.bytecode.specs.Tables.{cap}
@@ -22,6 +23,7 @@ use Rattle.bytecode.specs.declared.PrivateEntry.{PrivateEntry}
 use Rattle.bytecode.specs.declared.WireShape.{WireShape}
 use Rattle.bytecode.specs.declared.WireShape.the-variants.{Unknown, Scalar, Composite}
 use Rattle.bytecode.specs.declared.Instr.{Instr}
+use Rattle.bytecode.specs.declared.Effect.{Effect}
 
 unfoldable pub header-of : Header → AnyHeader
 header-of h =
@@ -51,10 +53,6 @@ declared-shape (Composite k n) = composite k n none
 unfoldable pub sig-shape : List ℕ → ℕ → ℕ → Shape
 sig-shape t k j = elim (ltb k (count t 6)) [ true ↦ from-wire (wireOf (cell t 6 k j)) | false ↦ unknown ]
 
--- "W + MIN" of each enum
-unfoldable pub enum-sizesOf : List ℕ → List ℕ
-enum-sizesOf t = map (saturating-add (headerOf t .word)) (enumsOf t)
-
 -- The rows of a table that are chunk k's.
 pub record Span-is (t : List ℕ) (table j k : ℕ) (r : Span) : Type 0 where
   pub first-is : r .first ≡ firstAt t table j k
@@ -77,3 +75,21 @@ pub record Instr-is (t : List ℕ) (i : ℕ) (r : Instr) : Type 0 where
   pub a-low : r .a ≤ getD (maxima-of (r .code)) 0 0
   pub b-low : r .b ≤ getD (maxima-of (r .code)) 1 0
   pub c-low : r .c ≤ getD (maxima-of (r .code)) 2 0
+
+-- ── Need and net ──────────────────────────────────────────────────────────────────────────
+
+-- how many GetIndex Flat of a kind pushes, and a native call
+unfoldable pub index-pushed : ℕ → ℕ
+index-pushed k = choose (eqb k 2 || eqb k 3) 7 1
+
+unfoldable pub native-pushed : ℕ → ℕ
+native-pushed n = choose (leb 128 n) 2 1
+
+-- I and H are the trap codes IndexOutOfBounds and HostError.
+unfoldable pub trap-need : ℕ → ℕ → ℕ → ℕ
+trap-need k index host = choose (eqb k index) 5 (choose (eqb k host) 1 0)
+
+-- The definition's need and net, in every chunk with these trap codes.
+unfoldable pub Effect-is : Instr → ℕ → ℕ → Effect → Type 0
+Effect-is i index host r =
+    (c : Chunk) → c .index-trap ≡ index → c .host-trap ≡ host → (r .need ≡ need c (instrOf i)) × (r .net ≡ net c (instrOf i))

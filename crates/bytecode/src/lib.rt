@@ -1,6 +1,6 @@
 // The tables of a module, in one lent slice of words: word k counts the rows of table k, whose rows stand from BASES[k] on.
 ghost use mathlib.Core.Path.{_≡_};
-ghost use Prim.Native.Nat.{ℕ, _+_, _*_, _-_, _<_, _≤_};
+ghost use Prim.Native.Nat.{ℕ, _+_, _*_, _-_, _%_, _<_, _≤_};
 ghost use mathlib.Core.List.{map};
 ghost use lib.ListN.{length, getD, getElem?};
 ghost use Rattle.definition.specs.Format.{bits};
@@ -10,8 +10,9 @@ ghost use Rattle.definition.specs.Module.{no-sig};
 ghost use Rattle.definition.specs.Effects.{shape-of, returned, returned-native};
 ghost use Rattle.bytecode.specs.Tables.{tables, stride, cap, base, size, row-at, Appended};
 ghost use Rattle.bytecode.specs.Lists.{limited};
-ghost use Rattle.bytecode.specs.Meaning.{count as countOf, headerOf, slotAt, slot-of, sharedAt, privateAt, enumAt, wireOf, localsAt, firstAt, endAt, nativesOf, sigsOf, chunkOf};
-ghost use Rattle.bytecode.specs.Parts.{header-of, shared-of, private-of, declared-shape, sig-shape, enum-sizesOf, Span-is, constant-of, Instr-is};
+ghost use Rattle.bytecode.specs.Meaning.{count as countOf, headerOf, slotAt, slot-of, sharedAt, privateAt, enumAt, wireOf, localsAt, firstAt, endAt, nativesOf, sigsOf, chunkOf, enum-sizesOf};
+ghost use Rattle.bytecode.specs.Parts.{header-of, shared-of, private-of, declared-shape, sig-shape, Span-is, constant-of, Instr-is, index-pushed, native-pushed, trap-need, Effect-is};
+ghost use lib.IntN.{pos, _-ℤ_};
 
 pub mod ops;
 
@@ -359,7 +360,10 @@ fn span_of(t: &[u64], table: usize, j: usize, k: usize) -> Span
     let first = first_at(t, table, j, k);
     let end = end_at(t, table, j, k);
     if end < first {
-        return Span { first: first, count: 0 };
+        return Span {
+            first: first,
+            count: 0,
+        };
     }
     Span {
         first: first,
@@ -426,5 +430,87 @@ pub fn instr_at(t: &[u64], i: usize) -> Instr
         a: a,
         b: b,
         c: c,
+    }
+}
+
+// What an instruction needs on the operand stack, and the net change of its height.
+pub struct Effect {
+    pub need: u32,
+    pub net: i64,
+}
+
+// n operands are taken, and one, two or none pushed.
+fn taking(n: u32, pushed: u8) -> Effect
+    ensures { λ r. ⌜ (r .need ≡ n) × (r .net ≡ pos pushed -ℤ pos n) ⌝ }
+{
+    Effect {
+        need: n,
+        net: (pushed as i64) - (n as i64),
+    }
+}
+
+// GetIndex Flat has a bounds outcome for kinds 2 and 3.
+fn index_effect(k: u32) -> Effect
+    ensures { λ r. ⌜ (r .need ≡ 2) × (r .net ≡ pos (index-pushed k) -ℤ pos 2) ⌝ }
+{
+    if k == 2 {
+        return taking(2, 7);
+    }
+    if k == 3 {
+        return taking(2, 7);
+    }
+    taking(2, 1)
+}
+
+// A native call's count has 7 bits; the eighth says that a flag is pushed after the result.
+fn native_effect(n: u32) -> Effect
+    ensures { λ r. ⌜ (r .need ≡ n % 128) × (r .net ≡ pos (native-pushed n) -ℤ pos (n % 128)) ⌝ }
+{
+    if n < 128 {
+        return taking(n % 128, 1);
+    }
+    taking(n % 128, 2)
+}
+
+// A trap takes what its code says.
+fn trap_effect(k: u32, index_trap: u16, host_trap: u16) -> Effect
+    ensures { λ r. ⌜ (r .need ≡ trap-need k «index_trap» «host_trap») × (r .net ≡ pos 0 -ℤ pos (trap-need k «index_trap» «host_trap»)) ⌝ }
+{
+    if k == (index_trap as u32) {
+        return taking(5, 0);
+    }
+    if k == (host_trap as u32) {
+        return taking(1, 0);
+    }
+    taking(0, 0)
+}
+
+pub fn op_depth_effect(i: Instr, index_trap: u16, host_trap: u16) -> Effect
+    ensures { λ r. ⌜ Effect-is i «index_trap» «host_trap» r ⌝ }
+{
+    let code = i.code;
+    let a = i.a;
+    let b = i.b;
+    match code {
+        0..=3 => Effect { need: 0, net: 1 },
+        4 => Effect { need: 1, net: 1 },
+        5..=6 => Effect { need: 1, net: -1 },
+        7 => Effect { need: 2, net: 5 },
+        8 => Effect { need: 2, net: 4 },
+        9 => Effect { need: 1, net: 5 },
+        10 => index_effect(a),
+        11..=12 => Effect { need: 2, net: 5 },
+        13..=27 => Effect { need: 2, net: -1 },
+        28..=46 => Effect { need: 1, net: 0 },
+        47..=48 => Effect { need: 1, net: 1 },
+        49 => taking(b, 1),
+        50..=51 => native_effect(b),
+        52..=53 => taking(b, 1),
+        54..=61 => Effect { need: 2, net: 1 },
+        62 => Effect { need: 1, net: 2 },
+        63 => taking(a, 0),
+        64 => trap_effect(a, index_trap, host_trap),
+        65..=66 => Effect { need: 1, net: -1 },
+        _ => Effect { need: 0, net: 0 },
     }
 }

@@ -5,7 +5,7 @@ use Rattle.definition.specs.Basics.{is-member, saturating-add}
 use Rattle.bytecode.specs.Tables.{cap, base, stride}
 use Rattle.bytecode.specs.Lists.{limited}
 use Rattle.bytecode.specs.Meaning.{count as countOf, count-low, headerOf}
-use Rattle.bytecode.specs.Parts.{enum-sizesOf}
+use Rattle.bytecode.specs.Meaning.{enum-sizesOf}
 use Rattle.bytecode.proofs.Laws.{Left, left-all, left-none, left-found, left-more}
 use Rattle.bytecode.proofs.has_enum_size.Statement.{statement}
 use Rattle.bytecode.proofs.has_enum_size.Tie as tie
@@ -65,9 +65,11 @@ loop-less c = search needs
 
 -- src/lib.rt:304:5
 loop-again : tie.Need-loop-again Inv-loop μ-loop
-loop-again c =
-    (c .before .before .before .before .loop .inv .0, c .before .before .before .before .loop .inv .1,
-    c .before .before .before .before .loop .inv .2 ∙ left-more (c .before .before .before .before .before .before .before .before .before .args .t .now) (c .before .before .before .before .before .before .before .before .before .args .s) (c .before .before .before .before .loop .i) (omega (arith, c .before .before .before .before .loop .inv .0)) (λ e. c .if1 .left (e ∙ sym (c .before .enum-size .ensures ∙ ap₂ saturating-add (c .before .before .before .before .loop .inv .1) (c .before .before .enum-min .ensures)))))
+loop-again c = (
+  c .before .before .before .before .loop .inv .0,
+  c .before .before .before .before .loop .inv .1,
+  c .before .before .before .before .loop .inv .2 ∙ left-more (c .before .before .before .before .before .before .before .before .before .args .t .now) (c .before .before .before .before .before .before .before .before .before .args .s) (c .before .before .before .before .loop .i) (omega (arith, c .before .before .before .before .loop .inv .0)) (λ e. c .if1 .left (e ∙ sym (c .before .enum-size .ensures ∙ ap₂ saturating-add (c .before .before .before .before .loop .inv .1) (c .before .before .enum-min .ensures)))),
+)
 
 -- src/lib.rt:298:1
 returns-2 : tie.Need-returns-2 Inv-loop μ-loop

@@ -34,11 +34,10 @@ limited64-requires c κs = search needs
 -- src/lib.rt:276:9
 returns-2 : tie.Need-returns-2
 unfolding params-at
-returns-2 c =
-    (
-      c .limited64 .ensures ∙ ap (λ (n : ℕ). limited 16 (n - 2)) (c .before .before .cell .ensures) ∙ sym (params-in (c .before .before .before .before .before .before .args .t .now) (c .before .before .before .before .before .before .args .k) (omega (arith, c .before .before .before .before .count .ensures))),
-      omega (arith, c .limited64 .ensures, limited-le 16 (c .before .before .cell .result - 2)),
-    )
+returns-2 c = (
+  c .limited64 .ensures ∙ ap (λ (n : ℕ). limited 16 (n - 2)) (c .before .before .cell .ensures) ∙ sym (params-in (c .before .before .before .before .before .before .args .t .now) (c .before .before .before .before .before .before .args .k) (omega (arith, c .before .before .before .before .count .ensures))),
+  omega (arith, c .limited64 .ensures, limited-le 16 (c .before .before .cell .result - 2)),
+)
 
 -- src/lib.rt:268:1
 returns-3 : tie.Need-returns-3
