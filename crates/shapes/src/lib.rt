@@ -29,7 +29,7 @@ pub enum Shape {
 
 impl Shape {
     // Equal kinds and, of composites, equal sizes.
-    pub fn same(self, other: Shape) -> bool
+    fn same(self, other: Shape) -> bool
         ensures { λ r. ⌜ r ≡ same-shape (plainOf self) (plainOf other) ⌝ }
     {
         match self {
@@ -147,7 +147,7 @@ pub struct Places {
     pub at: [u32; 16],
 }
 
-pub fn no_places() -> Places
+fn no_places() -> Places
     ensures { λ r. ⌜ Holds (r .count) (r .at) [] ⌝ }
 {
     Places {
@@ -158,7 +158,7 @@ pub fn no_places() -> Places
 
 impl Places {
     // One place more.
-    pub fn add(self, o: u32) -> Places
+    fn add(self, o: u32) -> Places
         requires { ⌜ self .count ≤ 17 ⌝ }
         ensures { λ r. ⌜ (r .count ≤ 17) × ((l : List ℕ) → Holds (self .count) (self .at) l → Holds (r .count) (r .at) (l ++ (o ∷ []))) ⌝ }
     {
@@ -177,7 +177,7 @@ impl Places {
     }
 
     // One place more, counted from `at`, if it lies from there up to `end`.
-    pub fn add_within(self, o: u32, at: u32, end: u32) -> Places
+    fn add_within(self, o: u32, at: u32, end: u32) -> Places
         requires { ⌜ self .count ≤ 17 ⌝ }
         ensures { λ r. ⌜ ((l : List ℕ) → Holds (self .count) (self .at) l → Holds (r .count) (r .at) (l ++ keep-if (leb at o && ltb o end) (o - at) [])) ⌝ }
     {
@@ -191,7 +191,7 @@ impl Places {
     }
 
     // The first n of ps more, each moved by `by`.
-    pub fn add_all(self, n: u8, ps: [u32; 16], by: u32) -> Places
+    fn add_all(self, n: u8, ps: [u32; 16], by: u32) -> Places
         requires { ⌜ (self .count ≤ 17) × (n ≤ 16) ⌝ }
         ensures { λ r. ⌜ (r .count ≤ 17) × ((l : List ℕ) → Holds (self .count) (self .at) l → Holds (r .count) (r .at) (l ++ shift by (take n ps))) ⌝ }
     {
@@ -207,7 +207,7 @@ impl Places {
     }
 
     // The places of one element at `at` more.
-    pub fn add_text(self, at: u32, v: Value) -> Taken
+    fn add_text(self, at: u32, v: Value) -> Taken
         requires { ⌜ self .count ≤ 17 ⌝ }
         ensures { λ r. ⌜ Took at (valueOf v) self (r .places) (r .open) ⌝ }
     {
@@ -252,13 +252,13 @@ impl Places {
 }
 
 // The places after one element more; open where that element's are unknown.
-pub struct Taken {
-    pub open: bool,
-    pub places: Places,
+struct Taken {
+    open: bool,
+    places: Places,
 }
 
 // Those of the first n places of ps that lie in the size bytes from `at` on, counted from there.
-pub fn places_within(n: u8, ps: [u32; 16], at: u32, size: u32) -> Places
+fn places_within(n: u8, ps: [u32; 16], at: u32, size: u32) -> Places
     requires { ⌜ n ≤ 16 ⌝ }
     ensures { λ r. ⌜ (r .count ≤ 16) × (take (r .count) (r .at) ≡ places-within at size (take n ps)) ⌝ }
 {
@@ -351,7 +351,7 @@ pub fn declared_value(shape: Shape) -> Value
 
 impl Value {
     // Equal shapes, with equal places where they are composites.
-    pub fn same(self, other: Value) -> bool
+    fn same(self, other: Value) -> bool
         ensures { λ r. ⌜ r ≡ same-shape (valueOf self) (valueOf other) ⌝ }
     {
         let a = self.shape;
@@ -536,7 +536,7 @@ pub fn empty_state() -> State
 
 impl State {
     // The value of slot i.
-    pub fn read(self, i: usize) -> Value
+    fn read(self, i: usize) -> Value
         requires { ⌜ i < 96 ⌝ }
         ensures { λ r. ⌜ valueOf r ≡ valueAt (self .slots) (self .places) i ⌝ }
     {
@@ -545,7 +545,7 @@ impl State {
     }
 
     // Slot i becomes v, and the others stay.
-    pub fn write(self, i: usize, v: Value) -> State
+    fn write(self, i: usize, v: Value) -> State
         requires { ⌜ i < 96 ⌝ }
         ensures { λ r. ⌜ Written self i (valueOf v) r ⌝ }
     {
@@ -750,7 +750,7 @@ impl State {
             return false;
         }
         if self.covers_slots(other, 0, h) {
-            self.covers_slots(other, 64, 64 + locals)
+            self.covers_locals(other, locals)
         } else {
             false
         }
