@@ -102,28 +102,36 @@ fn signature(params: usize) -> ChunkSignature {
 /// Blocks in one another: eight, or more (limit 4), at times with broken nesting besides.
 fn deep(random: &mut Random, small: bool) -> Chunk {
     let depth = MAX_OPEN_BLOCKS + random.below(2);
-    let mut chunk = Chunk::default();
-    // An If needs a condition, and so an instruction more than a loop.
-    let loops = if small { 100 } else { 70 };
-    let kinds: Vec<bool> = (0..depth).map(|_| random.chance(loops)).collect();
-    let pushes = kinds.iter().filter(|is_loop| !**is_loop).count();
-    let ops = depth * 2 + pushes;
-    let mut closer = ops;
-    for is_loop in &kinds {
-        closer -= 1;
-        if *is_loop {
-            chunk.ops.push(Op::Loop(closer as u16 + 1));
-        } else {
-            chunk.ops.extend([Op::GetLocal(0), Op::If(closer as u16)]);
-        }
+    let mut ops = Vec::new();
+    for _ in 0..depth {
+        // A loop has the fewest instructions.
+        let kind = if small { 0 } else { random.below(4) };
+        ops = around(kind, ops);
     }
-    for is_loop in kinds.iter().rev() {
-        chunk.ops.push(if *is_loop { Op::EndLoop(0) } else { Op::EndIf });
-    }
+    let mut chunk = Chunk { ops, ..Chunk::default() };
     if random.chance(15) {
         damage::misnest(random, &mut chunk);
     }
     chunk
+}
+
+/// A block around instructions that stand in it alone: a loop, or an If with them in its only, first or last arm.
+fn around(kind: usize, inner: Vec<Op>) -> Vec<Op> {
+    let length = inner.len() as u16;
+    let condition = Op::GetLocal(0);
+    let (before, after, moved) = match kind {
+        0 => (vec![Op::Loop(length + 2)], vec![Op::EndLoop(0)], 1),
+        1 => (vec![condition, Op::If(length + 2)], vec![Op::EndIf], 2),
+        2 => (vec![condition, Op::If(length + 3)], vec![Op::Else(length + 3), Op::EndIf], 2),
+        _ => (vec![condition, Op::If(3), Op::Else(length + 3)], vec![Op::EndIf], 3),
+    };
+    let inner = inner.into_iter().map(|op| match op {
+        Op::Loop(target) => Op::Loop(target + moved),
+        Op::If(target) => Op::If(target + moved),
+        Op::Else(target) => Op::Else(target + moved),
+        other => other,
+    });
+    before.into_iter().chain(inner).chain(after).collect()
 }
 
 /// Operands up to the limit, or over it (limit 5).

@@ -95,8 +95,12 @@ impl<'a> Chain<'a> {
         }
         let nested = self.locals > 2 && self.random.chance(25);
         self.loop_over(0, if nested { self.locals / 2 } else { self.locals }, nested);
-        if self.random.chance(50) {
+        if self.random.chance(30) {
             self.read(0);
+        }
+        if self.random.chance(60) {
+            let local = if self.random.chance(70) { 0 } else { self.random.below(usize::from(self.locals)) as u16 };
+            self.read_what_was_not_there(local);
         }
         self.put(Op::Return);
         self.chunk
@@ -155,5 +159,16 @@ impl<'a> Chain<'a> {
         };
         self.put(Op::GetTupleField(field));
         self.put(Op::PopN(1));
+    }
+
+    /// A read of a local that is refused unless the local is known less well than at first.
+    fn read_what_was_not_there(&mut self, local: u16) {
+        self.put(Op::GetLocal(local));
+        let field = match self.values {
+            Values::Scalars => TupleField::Flat { offset: 0, kind: ScalarKind::Int },
+            Values::Places => TupleField::Flat { offset: 0, kind: ScalarKind::Text },
+            Values::Sizes => TupleField::Flat { offset: 100, kind: ScalarKind::Int },
+        };
+        self.put(Op::GetTupleField(field));
     }
 }

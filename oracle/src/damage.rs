@@ -80,8 +80,9 @@ pub fn misnest(random: &mut Random, chunk: &mut Chunk) {
         return;
     }
     let at = random.pick(&places);
-    match random.below(4) {
+    match random.below(5) {
         0 => chunk.ops[at] = stray(random),
+        2 => name_another_closer(random, &mut chunk.ops, at),
         1 => {
             let other = random.pick(&places);
             chunk.ops.swap(at, other);
@@ -95,6 +96,20 @@ pub fn misnest(random: &mut Random, chunk: &mut Chunk) {
                 chunk.ops.remove(at);
             }
         },
+    }
+}
+
+/// Gives an opener, or an Else, the target that some closer's own opener would have.
+fn name_another_closer(random: &mut Random, ops: &mut [Op], at: usize) {
+    let is_closer = |ip: &usize| matches!(ops[*ip], Op::EndIf | Op::Else(_) | Op::EndLoop(_));
+    let closers: Vec<usize> = (0..ops.len()).filter(is_closer).collect();
+    if closers.is_empty() {
+        return;
+    }
+    let closer = random.pick(&closers);
+    let target = if ops[closer] == Op::EndIf { closer } else { closer + 1 };
+    if let Some(own) = target_of(&mut ops[at]) {
+        *own = target as u16;
     }
 }
 

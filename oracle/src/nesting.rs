@@ -37,16 +37,10 @@ struct Block {
 }
 
 impl Block {
-    fn arms(&self) -> Vec<Range<usize>> {
-        match self.middle {
-            Some(middle) => vec![self.opener + 1..middle, middle + 1..self.closer],
-            None => vec![self.opener + 1..self.closer],
-        }
-    }
-
-    /// The arm that holds an instruction.
+    /// The arm that holds an instruction. Without an Else the second arm is empty.
     fn arm_with(&self, ip: usize) -> Option<Range<usize>> {
-        self.arms().into_iter().find(|arm| arm.contains(&ip))
+        let middle = self.middle.unwrap_or(self.closer);
+        [self.opener + 1..middle, middle + 1..self.closer].into_iter().find(|arm| arm.contains(&ip))
     }
 }
 
