@@ -14,6 +14,9 @@ fn main() -> io::Result<()> {
     };
     let seed: u64 = seed.parse().map_err(io::Error::other)?;
     let count: u64 = count.parse().map_err(io::Error::other)?;
+    if let Some(directory) = directory {
+        std::fs::create_dir_all(directory)?;
+    }
     let mut out = BufWriter::new(io::stdout().lock());
     for number in 0..count {
         let listing = generator::listing(seed, number, size);

@@ -14,7 +14,10 @@ impl Builder<'_> {
                 self.structure(self.plan.ops);
             }
             Some(Target::Refusal(5 | 12)) => self.provoke_shortage(),
-            Some(Target::Refusal(10 | 11)) if !self.loops.is_empty() && self.random.chance(60) => self.break_if(),
+            Some(Target::Refusal(10 | 11)) if !self.loops.is_empty() && self.random.chance(60) => {
+                self.break_if();
+                self.break_if();
+            }
             Some(Target::Refusal(10 | 11)) => self.structure(self.plan.ops),
             Some(Target::Refusal(6 | 15)) => {
                 self.build(3);
