@@ -1,0 +1,127 @@
+-- Laws of the values of slots: read, stored, and a store as a step on the definition's states.
+-- Assumes nothing.
+use mathlib.Core.Path.{_≡_, refl, sym, ap, ap₂, _∙_}
+use mathlib.Core.Logic.{⊎-elim}
+use mathlib.Core.Option.{Option, none, some}
+use mathlib.Core.List.{List, [], _∷_, _++_, map}
+use Prim.Native.Nat.{ℕ, zero, suc, _+_, _*_, _-_, _≤_, _<_}
+use native.Mathlib.Numerals.{add-one}
+use native.Mathlib.Omega.{arith}
+use borrow.Author.Tests.{le-leb, lt-leb}
+use lib.ListN.{length, getD, set, take, drop, replicate, length-map, length-drop, getD-replicate, List·getD-eq-default}
+use lib.Seq.{paste, paste-zero, take-take, getD-set-same, getD-set-other, set-out}
+use Rattle.definition.specs.Basics.{choose}
+use Rattle.definition.specs.Shapes.{Shape as AnyShape, unknown}
+use Rattle.definition.specs.Walk.{State as AnyState}
+use Rattle.shapes.specs.declared.State.{State}
+use Rattle.shapes.specs.declared.Slot.{Slot}
+use Rattle.shapes.specs.declared.Shape.the-variants.{Unknown}
+use Rattle.shapes.specs.Tabulated.{down, up}
+use Rattle.shapes.specs.Model.{valueIn, valueAt, stateOf, stackOf, localsOf, pushed, popped, withLocal, placesOf, countOf, shapeOf, blank}
+use Rattle.shapes.specs.Slots.{Written}
+use Rattle.shapes.proofs.Lists.{lt-or-ge, down-same, down-drop, up-same, up-set, up-length, up-replicate, pasted-here, stretch-other}
+
+-- ── Counts and places ─────────────────────────────────────────────────────────────────────
+
+pub places-known : (k : ℕ) (p : List ℕ) → k ≤ 16 → placesOf k p ≡ some (take k p)
+unfolding placesOf
+places-known k p h = rw (le-leb k 16 h)
+
+pub places-unknown : (k : ℕ) (p : List ℕ) → 16 < k → placesOf k p ≡ none
+unfolding placesOf
+places-unknown k p h = rw (lt-leb k 16 h)
+
+pub count-known : (k : ℕ) → k ≤ 16 → k ≡ countOf k
+unfolding countOf choose
+count-known k h = rw (le-leb k 16 h)
+
+pub count-unknown : (k : ℕ) → 16 < k → 0 ≡ countOf k
+unfolding countOf choose
+count-unknown k h = rw (lt-leb k 16 h)
+
+-- only the known places count
+places-by : (k : ℕ) (p q : List ℕ) → (k ≤ 16 → take k p ≡ take k q) → placesOf k p ≡ placesOf k q
+places-by k p q h =
+    ⊎-elim (λ (l : k < 17). places-known k p (omega arith) ∙ ap some (h (omega arith)) ∙ sym (places-known k q (omega arith)))
+    (λ (g : 17 ≤ k). places-unknown k p g ∙ sym (places-unknown k q g)) (lt-or-ge k 17)
+
+-- ── A slot that is read ───────────────────────────────────────────────────────────────────
+
+-- the first n of a stretch, copied to the front of zeros
+pub read-law : (slot : Slot) (ps : List ℕ) (i n : ℕ) (q : List ℕ) → length ps ≡ 1536 → i < 96 → n ≡ countOf (slot .known)
+    → q ≡ paste (replicate 16 0) 0 (drop (i * 16) ps) n → shapeOf (slot .shape) (placesOf (slot .known) q) ≡ valueIn slot ps i
+unfolding valueIn
+read-law slot ps i n q hp hi hn e =
+    ap (shapeOf (slot .shape)) (places-by (slot .known) q (take 16 (drop (i * 16) ps)) known)
+  where
+    known : slot .known ≤ 16 → take (slot .known) q ≡ take (slot .known) (take 16 (drop (i * 16) ps))
+    known h =
+        let k : ℕ = slot .known in
+        let u : n ≡ k = hn ∙ sym (count-known k h) in
+        let l : length (drop (i * 16) ps) ≡ 1536 - i * 16 = length-drop (i * 16) ps ∙ ap (λ (m : ℕ). m - i * 16) hp in
+        ap (take k) (e ∙ ap (λ (m : ℕ). paste (replicate 16 0) 0 (drop (i * 16) ps) m) u)
+        ∙ pasted-here (replicate 16 0) 0 (drop (i * 16) ps) k (let r : 0 + k ≤ 16 = omega arith in r) (omega arith)
+        ∙ sym (take-take k 16 (drop (i * 16) ps) h)
+
+-- ── A slot that is written ────────────────────────────────────────────────────────────────
+
+module _ (slots : List Slot) (ps : List ℕ) (i : ℕ) (x : Slot) (v : List ℕ) (n : ℕ) (hi : i < 96) (hl : length slots ≡ 96) (hp : length ps ≡ 1536)
+    (hv : length v ≡ 16) (hn : n ≡ countOf (x .known)) (few : n ≤ 16) where
+  pub stored-here : valueAt (set slots i x) (paste ps (i * 16) v n) i ≡ shapeOf (x .shape) (placesOf (x .known) v)
+  unfolding valueAt valueIn
+  stored-here =
+      rw (getD-set-same slots i x blank (omega arith))
+      (ap (shapeOf (x .shape)) (places-by (x .known) (take 16 (drop (i * 16) (paste ps (i * 16) v n))) v known))
+    where
+      known : x .known ≤ 16 → take (x .known) (take 16 (drop (i * 16) (paste ps (i * 16) v n))) ≡ take (x .known) v
+      known h =
+          let k : ℕ = x .known in
+          let u : n ≡ k = hn ∙ sym (count-known k h) in
+          take-take k 16 (drop (i * 16) (paste ps (i * 16) v n)) h
+          ∙ ap (λ (m : ℕ). take k (drop (i * 16) (paste ps (i * 16) v m))) u
+          ∙ pasted-here ps (i * 16) v k (omega arith) (omega arith)
+
+  pub stored-there : (j : ℕ) → (j ≡ i → ⊥) → valueAt (set slots i x) (paste ps (i * 16) v n) j ≡ valueAt slots ps j
+  unfolding valueAt valueIn
+  stored-there j ne = rw (getD-set-other slots i j x blank ne, stretch-other ps i v n hi hp few (omega arith) j ne)
+
+-- what owning an array of structs tells of its length, for `search`: the fact stands at `map` of the list
+pub length-mapped : (X Y : Type 0) (f : X → Y) (l : List X) (n : ℕ) → length (map f l) ≡ n → length l ≡ n
+length-mapped X Y f l n e = sym (length-map l f) ∙ e
+
+-- ── A store as a step on the model ────────────────────────────────────────────────────────
+
+pub model : {a b c d : List AnyShape} → a ≡ b → c ≡ d → _≡_ {A = AnyState} (record { stack = a; locals = c }) (record { stack = b; locals = d })
+model p q = λ i. record { stack = p i; locals = q i }
+
+pub push-law : (s r : State) (v : AnyShape) (n : ℕ) → s .height < 64 → n ≤ 32 → Written s (s .height) v r
+    → stateOf n (record { height = s .height + 1; slots = r .slots; places = r .places }) ≡ pushed v (stateOf n s)
+push-law s r v n h l w =
+    model
+    (ap (λ (n : ℕ). down (valueAt (r .slots) (r .places)) n) (add-one (s .height))
+    ∙ ap₂ (λ x xs. x ∷ xs) (w .here) (down-same _ _ (s .height) (λ j l. w .there j (λ e. omega arith))))
+    (up-same _ _ 64 n (λ j l u. w .there j (λ e. omega arith)))
+
+pub pop-law : (s : State) (n locals : ℕ) → n ≤ s .height
+    → stateOf locals (record { height = s .height - n; slots = s .slots; places = s .places }) ≡ popped n (stateOf locals s)
+pop-law s n locals h = model (down-drop (valueAt (s .slots) (s .places)) n (s .height) h) refl
+
+pub local-law : (s r : State) (i : ℕ) (v : AnyShape) (n : ℕ) → s .height ≤ 64 → i < n → n ≤ 32 → Written s (64 + i) v r → stateOf n r ≡ withLocal i v (stateOf n s)
+local-law s r i v n h l b w =
+    model
+    (ap (λ (n : ℕ). down (valueAt (r .slots) (r .places)) n) (w .height)
+    ∙ down-same _ _ (s .height) (λ j u. w .there j (λ e. omega arith)))
+    (up-set _ _ 64 n i v l (w .here) (λ j n. w .there j n))
+
+pub local-past : (s : State) (i : ℕ) (v : AnyShape) (n : ℕ) → n ≤ i → stateOf n s ≡ withLocal i v (stateOf n s)
+local-past s i v n h = model refl (sym (set-out (localsOf n s) i v (rw (up-length (valueAt (s .slots) (s .places)) 64 n) h)))
+
+pub get-past : (s : State) (i n : ℕ) → n ≤ i → unknown ≡ getD (localsOf n s) i unknown
+get-past s i n h = sym (List·getD-eq-default (localsOf n s) unknown (rw (up-length (valueAt (s .slots) (s .places)) 64 n) h))
+
+pub empty-law : (s : State) (n : ℕ) → s .height ≡ 0 → n ≤ 32 → s .slots ≡ replicate 96 blank → stateOf n s ≡ record { stack = []; locals = replicate n unknown }
+unfolding valueAt valueIn shapeOf
+empty-law s n h l e =
+    model (ap (λ (m : ℕ). down (valueAt (s .slots) (s .places)) m) h)
+    (up-replicate (valueAt (s .slots) (s .places)) unknown 64 n
+    (λ j a b. rw (e, getD-replicate 96 j blank blank (let q : j < 96 = omega arith in q))))

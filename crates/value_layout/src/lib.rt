@@ -1,0 +1,66 @@
+// Widths of values: the bytes of a scalar of each kind, the tags that are known, and the bytes of an address.
+ghost use mathlib.Core.Path.{_≡_};
+ghost use Prim.Native.Nat.{_≤_, _/_, _^_};
+ghost use lib.Dec.{leb};
+ghost use Rattle.value_layout.specs.Sizes.{widthOf};
+
+// Bytes of a word, of a float and of an address.
+pub struct Widths {
+    pub word: u8,
+    pub float: u8,
+    pub address: u8,
+}
+
+// Eight bits hold every width, so that twice a word always fits the answer.
+fn wide(bytes: u8) -> u32
+    ensures { λ r. ⌜ r ≡ bytes ⌝ }
+{
+    bytes as u32
+}
+
+impl Widths {
+    // Bytes of a scalar of a kind; a kind that is not known has none.
+    pub fn size_in_bytes(self, kind: u8) -> u32
+        ensures { λ r. ⌜ r ≡ widthOf self kind ⌝ }
+    {
+        match kind {
+            0 => 0,
+            1 => 1,
+            2 => 1,
+            3 => wide(self.word),
+            4 => wide(self.word),
+            5 => wide(self.float),
+            6 => 2 * wide(self.word),
+            7 => wide(self.address),
+            _ => 0,
+        }
+    }
+}
+
+// Whether a tag is that of a scalar kind.
+pub fn is_scalar_tag(tag: u8) -> bool
+    ensures { λ r. ⌜ r ≡ leb tag 7 ⌝ }
+{
+    tag <= 7
+}
+
+// Whether a tag is that of a composite kind.
+pub fn is_composite_tag(tag: u8) -> bool
+    ensures { λ r. ⌜ r ≡ leb tag 3 ⌝ }
+{
+    tag <= 3
+}
+
+// Bytes of an address, from the base-two logarithm of its bits.
+pub fn address_bytes(log: u8) -> u8
+    requires { ⌜ log ≤ 6 ⌝ }
+    ensures { λ r. ⌜ r ≡ 2 ^ log / 8 ⌝ }
+{
+    match log {
+        3 => 1,
+        4 => 2,
+        5 => 4,
+        6 => 8,
+        _ => 0,
+    }
+}
