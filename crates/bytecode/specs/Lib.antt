@@ -1,0 +1,9 @@
+pub mod Tables
+pub mod Held
+pub mod Lists
+pub mod Meaning
+pub mod Operands
+pub mod Parts
+pub mod Fits
+pub mod Bridge
+pub mod Names

@@ -1,0 +1,516 @@
+// The tables of a module, in one lent slice of words: word k counts the rows of table k, whose rows stand from BASES[k] on.
+ghost use mathlib.Core.Path.{_≡_};
+ghost use Prim.Native.Nat.{ℕ, _+_, _*_, _-_, _%_, _<_, _≤_};
+ghost use mathlib.Core.List.{map};
+ghost use lib.ListN.{length, getD, getElem?};
+ghost use Rattle.definition.specs.Format.{bits};
+ghost use Rattle.definition.specs.Basics.{is-member, saturating-add};
+ghost use Rattle.definition.specs.Shapes.{from-wire, unknown};
+ghost use Rattle.definition.specs.Module.{no-sig};
+ghost use Rattle.definition.specs.Effects.{shape-of, returned, returned-native};
+ghost use Rattle.bytecode.specs.Tables.{tables, stride, cap, base, size, row-at, Appended};
+ghost use Rattle.bytecode.specs.Lists.{limited};
+ghost use Rattle.bytecode.specs.Meaning.{count as countOf, headerOf, slotAt, slot-of, sharedAt, privateAt, enumAt, wireOf, localsAt, firstAt, endAt, nativesOf, sigsOf, chunkOf, enum-sizesOf};
+ghost use Rattle.bytecode.specs.Parts.{header-of, shared-of, private-of, declared-shape, sig-shape, Span-is, constant-of, Instr-is, index-pushed, native-pushed, trap-need, Effect-is};
+ghost use lib.IntN.{pos, _-ℤ_};
+
+pub mod ops;
+
+pub const SIZE: usize = 22232;
+
+pub const WORDS: usize = 19;
+
+const STRIDES: [usize; 10] = [8, 1, 4, 3, 2, 2, 19, 4, 2, 4];
+
+const CAPS: [u64; 10] = [1, 256, 256, 256, 64, 64, 64, 64, 1024, 4096];
+
+const BASES: [usize; 10] = [16, 24, 280, 1304, 2072, 2200, 2328, 3544, 3800, 5848];
+
+fn stride_of(k: usize) -> usize
+    requires { ⌜ k < tables ⌝ }
+    ensures { λ r. ⌜ r ≡ stride k ⌝ }
+{
+    STRIDES[k]
+}
+
+fn base_of(k: usize) -> usize
+    requires { ⌜ k < tables ⌝ }
+    ensures { λ r. ⌜ r ≡ base k ⌝ }
+{
+    BASES[k]
+}
+
+pub fn cap_of(k: usize) -> u64
+    requires { ⌜ k < tables ⌝ }
+    ensures { λ r. ⌜ r ≡ cap k ⌝ }
+{
+    CAPS[k]
+}
+
+fn index(x: u64) -> usize
+    ensures { λ r. ⌜ r ≡ x ⌝ }
+{
+    x as usize
+}
+
+// A word, or 0 past the end.
+pub fn word(t: &[u64], i: usize) -> u64
+    ensures { λ r. ⌜ r ≡ getD (now (t .entry)) i 0 ⌝ }
+{
+    if i < t.len() { t[i] } else { 0 }
+}
+
+// Word j of row i of table k.
+pub fn cell(t: &[u64], k: usize, i: usize, j: usize) -> u64
+    requires { ⌜ (k < tables) × (i < cap k) × (j < 19) ⌝ }
+    ensures { λ r. ⌜ r ≡ getD (now (t .entry)) (row-at k i + j) 0 ⌝ }
+{
+    let s = stride_of(k);
+    let b = base_of(k);
+    word(t, b + i * s + j)
+}
+
+// One more row of table k.
+pub fn append(t: &mut [u64], k: usize, row: &[u64; 19])
+    requires { ⌜ (k < tables) × (length (now t) ≡ size) × (getD (now t) k 0 < cap k) ⌝ }
+    ensures { λ r. ⌜ Appended (now (t .entry)) k (now (row .entry)) (now (t .exit)) ⌝ }
+{
+    let n = t[k];
+    let s = stride_of(k);
+    let b = base_of(k);
+    let at = b + index(n) * s;
+    let mut j = 0;
+    while j < s {
+        t[at + j] = row[j];
+        j += 1;
+    }
+    t[k] = n + 1;
+}
+
+// A word of a table may be any number: what is read off it is cut to the largest number that a listing may say there.
+fn limited8(x: u64, m: u8) -> u8
+    ensures { λ r. ⌜ r ≡ limited m x ⌝ }
+{
+    if x <= (m as u64) { x as u8 } else { m }
+}
+
+fn limited16(x: u64, m: u16) -> u16
+    ensures { λ r. ⌜ r ≡ limited m x ⌝ }
+{
+    if x <= (m as u64) { x as u16 } else { m }
+}
+
+fn limited32(x: u64, m: u32) -> u32
+    ensures { λ r. ⌜ r ≡ limited m x ⌝ }
+{
+    if x <= (m as u64) { x as u32 } else { m }
+}
+
+fn limited64(x: u64, m: u64) -> usize
+    ensures { λ r. ⌜ r ≡ limited m x ⌝ }
+{
+    if x <= m { x as usize } else { m as usize }
+}
+
+// The rows of table k.
+pub fn count(t: &[u64], k: usize) -> usize
+    requires { ⌜ k < tables ⌝ }
+    ensures { λ r. ⌜ r ≡ countOf (now (t .entry)) k ⌝ }
+{
+    limited64(word(t, k), cap_of(k))
+}
+
+pub struct Header {
+    pub word: u8,
+    pub float: u8,
+    pub address_log: u8,
+    pub shared_bytes: u32,
+    pub pool_bytes: u32,
+    pub index_trap: u16,
+    pub host_trap: u16,
+}
+
+pub fn header_at(t: &[u64]) -> Header
+    ensures { λ r. ⌜ header-of r ≡ headerOf (now (t .entry)) ⌝ }
+{
+    let word_bytes = limited8(word(t, 17), 8);
+    let float_bytes = limited8(word(t, 18), 8);
+    let address_log = limited8(word(t, 19), 6);
+    let shared_bytes = limited32(word(t, 20), 4294967295);
+    let pool_bytes = limited32(word(t, 21), 4294967295);
+    let index_trap = limited16(word(t, 22), 65535);
+    let host_trap = limited16(word(t, 23), 65535);
+    Header {
+        word: word_bytes,
+        float: float_bytes,
+        address_log: address_log,
+        shared_bytes: shared_bytes,
+        pool_bytes: pool_bytes,
+        index_trap: index_trap,
+        host_trap: host_trap,
+    }
+}
+
+// Whether slot i is shared; else it is private.
+pub fn slot_shared(t: &[u64], i: usize) -> bool
+    requires { ⌜ i < 256 ⌝ }
+    ensures { λ r. ⌜ slot-of r ≡ slotAt (now (t .entry)) i ⌝ }
+{
+    cell(t, 1, i, 0) == 0
+}
+
+pub struct SharedEntry {
+    pub offset: u32,
+    pub kind: u8,
+    pub len: u16,
+}
+
+pub fn shared_at(t: &[u64], i: usize) -> SharedEntry
+    requires { ⌜ i < 256 ⌝ }
+    ensures { λ r. ⌜ shared-of r ≡ sharedAt (now (t .entry)) i ⌝ }
+{
+    let offset = limited32(cell(t, 2, i, 1), 4294967295);
+    let kind = limited8(cell(t, 2, i, 2), 255);
+    let len = limited16(cell(t, 2, i, 3), 65535);
+    SharedEntry {
+        offset: offset,
+        kind: kind,
+        len: len,
+    }
+}
+
+pub struct PrivateEntry {
+    pub slot: u16,
+    pub offset: u32,
+}
+
+pub fn private_at(t: &[u64], i: usize) -> PrivateEntry
+    requires { ⌜ i < 256 ⌝ }
+    ensures { λ r. ⌜ private-of r ≡ privateAt (now (t .entry)) i ⌝ }
+{
+    let slot = limited16(cell(t, 3, i, 1), 65535);
+    let offset = limited32(cell(t, 3, i, 2), 4294967295);
+    PrivateEntry {
+        slot: slot,
+        offset: offset,
+    }
+}
+
+// The smallest payload of enum i.
+pub fn enum_min(t: &[u64], i: usize) -> u32
+    requires { ⌜ i < 64 ⌝ }
+    ensures { λ r. ⌜ r ≡ enumAt (now (t .entry)) i ⌝ }
+{
+    limited32(cell(t, 4, i, 1), 4294967295)
+}
+
+// A declared shape as the walk takes it: a tag that is not known gives unknown.
+pub enum WireShape {
+    Unknown,
+    Scalar(u8),
+    Composite(u8, u32),
+}
+
+// The shape of a wire word: 2 bits say which, then 8 bits of K, then SIZE.
+fn shape_of_word(w: u64) -> WireShape
+    ensures { λ r. ⌜ declared-shape r ≡ from-wire (wireOf w) ⌝ }
+{
+    let tag = w % 4;
+    let k = (w / 4 % 256) as u8;
+    if tag == 1 {
+        if k <= 7 {
+            return WireShape::Scalar(k);
+        }
+        return WireShape::Unknown;
+    }
+    if tag == 2 {
+        if k <= 3 {
+            let size = limited32(w / 1024, 4294967295);
+            return WireShape::Composite(k, size);
+        }
+    }
+    WireShape::Unknown
+}
+
+// What native k is declared to return; unknown where there is none.
+pub fn native_shape(t: &[u64], k: usize) -> WireShape
+    ensures { λ r. ⌜ declared-shape r ≡ shape-of (returned-native (getElem? (nativesOf (now (t .entry))) k)) ⌝ }
+{
+    if k < count(t, 5) {
+        return shape_of_word(cell(t, 5, k, 1));
+    }
+    WireShape::Unknown
+}
+
+// Shape j of signature k: 1 is what it returns, 2 what it resumes with; unknown where there is no such signature.
+fn sig_shape(t: &[u64], k: usize, j: usize) -> WireShape
+    requires { ⌜ j < 19 ⌝ }
+    ensures { λ r. ⌜ declared-shape r ≡ sig-shape (now (t .entry)) k j ⌝ }
+{
+    if k < count(t, 6) {
+        return shape_of_word(cell(t, 6, k, j));
+    }
+    WireShape::Unknown
+}
+
+pub fn sig_return(t: &[u64], k: usize) -> WireShape
+    ensures { λ r. ⌜ declared-shape r ≡ shape-of (returned (getElem? (sigsOf (now (t .entry))) k)) ⌝ }
+{
+    sig_shape(t, k, 1)
+}
+
+pub fn sig_resume(t: &[u64], k: usize) -> WireShape
+    ensures { λ r. ⌜ declared-shape r ≡ from-wire (getD (sigsOf (now (t .entry))) k no-sig .resume) ⌝ }
+{
+    sig_shape(t, k, 2)
+}
+
+// The number of parameters of signature k; 0 where there is no such signature.
+pub fn sig_params(t: &[u64], k: usize) -> usize
+    ensures { λ r. ⌜ (r ≡ length (getD (sigsOf (now (t .entry))) k no-sig .params)) × (r ≤ 16) ⌝ }
+{
+    if k < count(t, 6) {
+        let n = cell(t, 6, k, 0);
+        if n < 2 {
+            return 0;
+        }
+        return limited64(n - 2, 16);
+    }
+    0
+}
+
+// Parameter j of signature k; unknown where there is none.
+pub fn sig_param(t: &[u64], k: usize, j: usize) -> WireShape
+    ensures { λ r. ⌜ declared-shape r ≡ getD (map from-wire (getD (sigsOf (now (t .entry))) k no-sig .params)) j unknown ⌝ }
+{
+    if j < sig_params(t, k) {
+        return sig_shape(t, k, j + 3);
+    }
+    WireShape::Unknown
+}
+
+fn enum_size(w: u8, m: u32) -> u32
+    ensures { λ r. ⌜ r ≡ saturating-add w m ⌝ }
+{
+    limited32((w as u64) + (m as u64), 4294967295)
+}
+
+// Whether a body of s bytes is an enum's: W + MIN of one.
+pub fn has_enum_size(t: &[u64], s: u32) -> bool
+    ensures { λ r. ⌜ r ≡ is-member s (enum-sizesOf (now (t .entry))) ⌝ }
+{
+    let n = count(t, 4);
+    let w = limited8(word(t, 17), 8);
+    let mut i = 0;
+    while i < n {
+        let m = enum_min(t, i);
+        if s == enum_size(w, m) {
+            return true;
+        }
+        i += 1;
+    }
+    false
+}
+
+// LOCALS of chunk k.
+pub fn locals(t: &[u64], k: usize) -> usize
+    requires { ⌜ k < 64 ⌝ }
+    ensures { λ r. ⌜ r ≡ localsAt (now (t .entry)) k ⌝ }
+{
+    limited64(cell(t, 7, k, 1), 32)
+}
+
+// A stretch of a table: its first row, and how many rows.
+pub struct Span {
+    pub first: usize,
+    pub count: usize,
+}
+
+fn wide(x: usize) -> u64
+    ensures { λ r. ⌜ r ≡ x ⌝ }
+{
+    x as u64
+}
+
+// Where the rows of chunk k begin in a table: word j of the chunk's row.
+fn first_at(t: &[u64], table: usize, j: usize, k: usize) -> usize
+    requires { ⌜ (k < 64) × (table < tables) × (j < 19) ⌝ }
+    ensures { λ r. ⌜ r ≡ firstAt (now (t .entry)) table j k ⌝ }
+{
+    let n = count(t, table);
+    limited64(cell(t, 7, k, j), wide(n))
+}
+
+// They end where those of the next chunk begin, and those of the last chunk where the table ends.
+fn end_at(t: &[u64], table: usize, j: usize, k: usize) -> usize
+    requires { ⌜ (k < 64) × (table < tables) × (j < 19) ⌝ }
+    ensures { λ r. ⌜ r ≡ endAt (now (t .entry)) table j k ⌝ }
+{
+    let next = k + 1;
+    if next < count(t, 7) {
+        return first_at(t, table, j, next);
+    }
+    count(t, table)
+}
+
+fn span_of(t: &[u64], table: usize, j: usize, k: usize) -> Span
+    requires { ⌜ (k < 64) × (table < tables) × (j < 19) ⌝ }
+    ensures { λ r. ⌜ Span-is (now (t .entry)) table j k r ⌝ }
+{
+    let first = first_at(t, table, j, k);
+    let end = end_at(t, table, j, k);
+    if end < first {
+        return Span {
+            first: first,
+            count: 0,
+        };
+    }
+    Span {
+        first: first,
+        count: end - first,
+    }
+}
+
+// The constants of chunk k among all.
+pub fn constants_of(t: &[u64], k: usize) -> Span
+    requires { ⌜ k < 64 ⌝ }
+    ensures { λ r. ⌜ Span-is (now (t .entry)) 8 2 k r ⌝ }
+{
+    span_of(t, 8, 2, k)
+}
+
+// The instructions of chunk k among all.
+pub fn instructions_of(t: &[u64], k: usize) -> Span
+    requires { ⌜ k < 64 ⌝ }
+    ensures { λ r. ⌜ Span-is (now (t .entry)) 9 3 k r ⌝ }
+{
+    span_of(t, 9, 3, k)
+}
+
+pub enum Constant {
+    Kind(u8),
+    Missing,
+}
+
+// Constant j of chunk k.
+pub fn constant_at(t: &[u64], k: usize, j: usize) -> Constant
+    requires { ⌜ k < 64 ⌝ }
+    ensures { λ r. ⌜ constant-of r ≡ getElem? (chunkOf (now (t .entry)) k .consts) j ⌝ }
+{
+    let s = span_of(t, 8, 2, k);
+    let first = s.first;
+    let n = s.count;
+    if j < n {
+        let kind = limited8(cell(t, 8, first + j, 1), 255);
+        return Constant::Kind(kind);
+    }
+    Constant::Missing
+}
+
+pub struct Instr {
+    pub code: u8,
+    pub a: u32,
+    pub b: u32,
+    pub c: u32,
+}
+
+// Instruction i of all.
+pub fn instr_at(t: &[u64], i: usize) -> Instr
+    requires { ⌜ i < 4096 ⌝ }
+    ensures { λ r. ⌜ Instr-is (now (t .entry)) i r ⌝ }
+{
+    let at = 5848 + i * 4;
+    let code = limited8(word(t, at), 74);
+    let row = code as usize;
+    let a = limited32(word(t, at + 1), ops::maximum_a(row));
+    let b = limited32(word(t, at + 2), ops::maximum_b(row));
+    let c = limited32(word(t, at + 3), ops::maximum_c(row));
+    Instr {
+        code: code,
+        a: a,
+        b: b,
+        c: c,
+    }
+}
+
+// What an instruction needs on the operand stack, and the net change of its height.
+pub struct Effect {
+    pub need: u32,
+    pub net: i64,
+}
+
+// n operands are taken, and one, two or none pushed.
+fn taking(n: u32, pushed: u8) -> Effect
+    ensures { λ r. ⌜ (r .need ≡ n) × (r .net ≡ pos pushed -ℤ pos n) ⌝ }
+{
+    Effect {
+        need: n,
+        net: (pushed as i64) - (n as i64),
+    }
+}
+
+// GetIndex Flat has a bounds outcome for kinds 2 and 3.
+fn index_effect(k: u32) -> Effect
+    ensures { λ r. ⌜ (r .need ≡ 2) × (r .net ≡ pos (index-pushed k) -ℤ pos 2) ⌝ }
+{
+    if k == 2 {
+        return taking(2, 7);
+    }
+    if k == 3 {
+        return taking(2, 7);
+    }
+    taking(2, 1)
+}
+
+// A native call's count has 7 bits; the eighth says that a flag is pushed after the result.
+fn native_effect(n: u32) -> Effect
+    ensures { λ r. ⌜ (r .need ≡ n % 128) × (r .net ≡ pos (native-pushed n) -ℤ pos (n % 128)) ⌝ }
+{
+    if n < 128 {
+        return taking(n % 128, 1);
+    }
+    taking(n % 128, 2)
+}
+
+// A trap takes what its code says.
+fn trap_effect(k: u32, index_trap: u16, host_trap: u16) -> Effect
+    ensures { λ r. ⌜ (r .need ≡ trap-need k «index_trap» «host_trap») × (r .net ≡ pos 0 -ℤ pos (trap-need k «index_trap» «host_trap»)) ⌝ }
+{
+    if k == (index_trap as u32) {
+        return taking(5, 0);
+    }
+    if k == (host_trap as u32) {
+        return taking(1, 0);
+    }
+    taking(0, 0)
+}
+
+pub fn op_depth_effect(i: Instr, index_trap: u16, host_trap: u16) -> Effect
+    ensures { λ r. ⌜ Effect-is i «index_trap» «host_trap» r ⌝ }
+{
+    let code = i.code;
+    let a = i.a;
+    let b = i.b;
+    match code {
+        0..=3 => Effect { need: 0, net: 1 },
+        4 => Effect { need: 1, net: 1 },
+        5..=6 => Effect { need: 1, net: -1 },
+        7 => Effect { need: 2, net: 5 },
+        8 => Effect { need: 2, net: 4 },
+        9 => Effect { need: 1, net: 5 },
+        10 => index_effect(a),
+        11..=12 => Effect { need: 2, net: 5 },
+        13..=27 => Effect { need: 2, net: -1 },
+        28..=46 => Effect { need: 1, net: 0 },
+        47..=48 => Effect { need: 1, net: 1 },
+        49 => taking(b, 1),
+        50..=51 => native_effect(b),
+        52..=53 => taking(b, 1),
+        54..=61 => Effect { need: 2, net: 1 },
+        62 => Effect { need: 1, net: 2 },
+        63 => taking(a, 0),
+        64 => trap_effect(a, index_trap, host_trap),
+        65..=66 => Effect { need: 1, net: -1 },
+        _ => Effect { need: 0, net: 0 },
+    }
+}
