@@ -15,7 +15,7 @@ use Rattle.definition.specs.Shapes.{Wire, top, scalarW, flatW}
 use Rattle.definition.specs.Instructions.{Sig}
 use Rattle.definition.specs.Ops.{Row, ops, Op}
 use Rattle.definition.specs.Module.{Slot, Shared, Private, Code, Header, Module, all-consts, all-ops}
-use Rattle.definition.specs.Format.{Bytes, bits, Item, text, number, among, numbers, shape, shapes, Takes, Form, form, Shape-reader, _and-then_, provided}
+use Rattle.definition.specs.Format.{Bytes, bits, Item, text, number, among, numbers, shape, shapes, Maker, Form, form, Shape-reader, _and-then_, provided}
 use Rattle.definition.specs.Format.{strip, bytes, digits-from, begins-number, number-at, numbers-at, begins-with, shapes-at, parse, front, nothing-after}
 use Rattle.definition.specs.Format.{whole, shape-forms, shape-at}
 use Rattle.definition.specs.Read.{Line, Lines, line, end, first-line, slot-line, shared-line, private-line, enum-line, native-line, sig-line, chunk-line}
@@ -85,7 +85,7 @@ pub record Tables-fit (m : Module) : Type 0 where
 -- ── What a form makes ─────────────────────────────────────────────────────────────────────
 
 -- Of values that the items read, f makes what P holds of.
-abbrev Sends : {A : Type 0} (P : A → Type 0) (is : List Item) → Takes is A → Type 0
+abbrev Sends : {A : Type 0} (P : A → Type 0) (is : List Item) → Maker is A → Type 0
 Sends P [] a = P a
 Sends P (text s ∷ is) f = Sends P is f
 Sends P (number m ∷ is) f = (n : ℕ) → n ≤ m → Sends P is (f n)
@@ -152,7 +152,7 @@ module _ (reader : Shape-reader) (fit : (bs : Bytes) (r : Wire × Bytes) → rea
       go false f ih = subst (λ (z : List Wire × Bytes). Each Wire-fits (z .0)) (some-inj f) nobody
 
   module _ {A : Type 0} (P : A → Type 0) where
-    parse-sends : (is : List Item) (f : Takes is A) (bs : Bytes) (q : A × Bytes) → Sends P is f → parse reader is f bs ≡ some q → P (q .0)
+    parse-sends : (is : List Item) (f : Maker is A) (bs : Bytes) (q : A × Bytes) → Sends P is f → parse reader is f bs ≡ some q → P (q .0)
     unfolding parse
     parse-sends [] a bs q s e = subst (λ (z : A × Bytes). P (z .0)) (some-inj e) s
     parse-sends (text t ∷ is) f bs q s e =
