@@ -19,9 +19,10 @@ use Rattle.nesting.proofs.BlockLaws.{order, closer-is, block-of}
 use Rattle.nesting.proofs.TopLaws.{three}
 use Rattle.nesting.proofs.Stack.{Chain, chain-top, chain-same, chain-stay, chain-push, chain-pop, open-after}
 use Rattle.nesting.specs.Codes.{Coded}
-use Rattle.nesting.specs.Steps.{Good, Here}
+use Rattle.nesting.specs.Steps.{Good, Here, Right, open-at}
 use Rattle.nesting.specs.declared.Code.{Code}
 use Rattle.nesting.specs.declared.Open.{Open}
+use Rattle.nesting.specs.declared.Step.{Step}
 use Rattle.nesting.specs.declared.Step.the-variants.{Bad, Stay, Pop, Push}
 use Rattle.nesting.specs.declared.ChunkNesting.{ChunkNesting}
 use Rattle.nesting.specs.declared.ChunkNesting.the-variants.{Broken, TooDeep, Nested}
@@ -125,7 +126,7 @@ module _ (c : Chunk) (t : List ℕ) (code : Code) (C : Coded c t code) where
       }
 
   module _ (ms es bs : List ℕ) (p h : ℕ) (found : ChunkNesting) (S : State c ms es bs p h found) where
-    pub here : p < code .size → Here c t code (record { middle = getD ms h 0; closer = getD es h 0; target = getD bs h 0 }) p
+    pub here : p < code .size → Here c t code (open-at ms es bs h) p
     here l =
         record {
           coded = C;
@@ -229,3 +230,34 @@ module _ (c : Chunk) (t : List ℕ) (code : Code) (C : Coded c t code) where
               broken = none-broken l;
               deep = λ _. →firsts (length (c .code)) 0 (deep-at c) (λ q a v. not-T (deep-at c q) (f q (omega (arith, C .size-is))));
             }
+
+-- ── Every chunk that has the instructions ─────────────────────────────────────────────────
+
+abbrev pub States : List ℕ → Code → List ℕ → List ℕ → List ℕ → ℕ → ℕ → ChunkNesting → Type 0
+States t code ms es bs p h found = (c : Chunk) → Coded c t code → State c ms es bs p h found
+
+-- a step that is right, at the innermost open block
+module _ (t : List ℕ) (code : Code) (ms es bs : List ℕ) (p h : ℕ) (found : ChunkNesting) (S : States t code ms es bs p h found)
+    (inner : Open) (s : Step) (i : inner ≡ open-at ms es bs h) (l : p < code .size) (R : Right t code inner p s) where
+  good : (x : Step) → s ≡ x → (c : Chunk) → Coded c t code → Good c p (getD es h 0) x
+  good x e c C =
+      subst (Good c p (getD es h 0)) e
+      (subst (λ (o : Open). Good c p (o .closer) s) i
+      (R c (subst (λ (o : Open). Here c t code o p) (sym i) (here c t code C ms es bs p h found (S c C) l))))
+
+  pub bads : s ≡ Bad → (c : Chunk) → Coded c t code → Verdict c (Broken p)
+  bads e c C = broken c t code C ms es bs p h found (S c C) l (good Bad e c C)
+
+  pub stays : s ≡ Stay → States t code ms es bs (p + 1) h found
+  stays e c C = stay c t code C ms es bs p h found (S c C) (good Stay e c C)
+
+  -- below the innermost there is one more entry
+  pub pops-none : s ≡ Pop → h ≡ 0 → (c : Chunk) → Coded c t code → Verdict c (Broken p)
+  pops-none e z c C = absurd (omega (arith, pop-some c t code C ms es bs p h found (S c C) l (good Pop e c C)))
+
+  pub pops : s ≡ Pop → States t code ms es bs (p + 1) (h - 1) found
+  pops e c C = pop c t code C ms es bs p h found (S c C) l (good Pop e c C)
+
+  pub pushes : (o : Open) (r : ChunkNesting) → s ≡ Push o → h + 1 < length ms → h + 1 < length es → h + 1 < length bs → r ≡ deeper found (h + 1) p
+      → States t code (set ms (h + 1) (o .middle)) (set es (h + 1) (o .closer)) (set bs (h + 1) (o .target)) (p + 1) (h + 1) r
+  pushes o r e x y z w c C = push c t code C ms es bs p h found (S c C) o r x y z (good (Push o) e c C) w

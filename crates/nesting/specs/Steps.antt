@@ -4,6 +4,7 @@ use mathlib.Core.Bool.{Bool, true, false, _&&_}
 use mathlib.Core.Option.{none, some}
 use mathlib.Core.List.{List}
 use Prim.Native.Nat.{ℕ, _<_, _-_}
+use lib.ListN.{getD}
 use lib.Dec.{ltb, eqb}
 use Rattle.definition.specs.Instructions.{Chunk, control-at, ifTo, loopTo}
 use Rattle.definition.specs.Nesting.{else-at}
@@ -71,3 +72,7 @@ pop-if false = Bad
 -- in a loop with the target `around`, or in none where it is 0
 abbrev pub break-of : ℕ → ℕ → Step
 break-of target around = stay-if (ltb 0 around && eqb around target)
+
+-- entry h of the stack
+abbrev pub open-at : List ℕ → List ℕ → List ℕ → ℕ → Open
+open-at ms es bs h = record { middle = getD ms h 0; closer = getD es h 0; target = getD bs h 0 }

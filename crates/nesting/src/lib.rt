@@ -10,7 +10,7 @@ ghost use Rattle.bytecode.specs.Parts.{instrOf};
 ghost use Rattle.nesting.specs.Codes.{partOf, part-in, Coded, Code-is};
 ghost use Rattle.nesting.specs.Blocks.{Fits};
 ghost use Rattle.nesting.specs.Answer.{numbers, Verdict, deeper, deeper-of-all};
-ghost use Rattle.nesting.specs.Steps.{Right, Right-two, Right-one, Right-if, Right-loop, Tells, Closes, stay-if, pop-if, break-of};
+ghost use Rattle.nesting.specs.Steps.{Right, Right-two, Right-one, Right-if, Right-loop, Tells, Closes, stay-if, pop-if, break-of, open-at};
 use bytecode;
 
 // An instruction's part in nesting. BreakIf is as Break.
@@ -182,7 +182,7 @@ fn loop_step(t: &[u64], code: Code, inner: Open, p: u16, target: u16) -> Step
     requires { ⌜ code .first + code .size ≤ 4096 ⌝ }
     ensures { λ r. ⌜ Right-loop (now (t .entry)) code inner p target r ⌝ }
 {
-    if target <= p {
+    if p >= target {
         return Step::Bad;
     }
     let closer = target - 1;
@@ -259,7 +259,21 @@ fn first_deep(found: ChunkNesting, h: usize, p: u16) -> ChunkNesting
     }
 }
 
-// One chunk. The three arrays are room for the stack.
+// Entry h of the stack.
+fn open_at(middles: &[u16], closers: &[u16], targets: &[u16], h: usize) -> Open
+    requires { ⌜ h < length (now middles) ⌝ }
+    requires { ⌜ h < length (now closers) ⌝ }
+    requires { ⌜ h < length (now targets) ⌝ }
+    ensures { λ r. ⌜ r ≡ open-at (now (middles .entry)) (now (closers .entry)) (now (targets .entry)) h ⌝ }
+{
+    Open {
+        middle: middles[h],
+        closer: closers[h],
+        target: targets[h],
+    }
+}
+
+// One chunk. The three slices are room for the stack; its first entry is the whole chunk.
 fn check_code(
     t: &[u64],
     code: Code,
@@ -281,14 +295,7 @@ fn check_code(
     let mut h: usize = 0;
     let mut found = ChunkNesting::Nested;
     while p < size {
-        let middle = middles[h];
-        let closer = closers[h];
-        let target = targets[h];
-        let inner = Open {
-            middle: middle,
-            closer: closer,
-            target: target,
-        };
+        let inner = open_at(middles, closers, targets, h);
         let s = step_at(t, code, inner, p);
         match s {
             Step::Bad => return ChunkNesting::Broken(p),
@@ -296,6 +303,7 @@ fn check_code(
                 p += 1;
             }
             Step::Pop => {
+                // Never taken: the entry of the whole chunk closes past the last instruction.
                 if h == 0 {
                     return ChunkNesting::Broken(p);
                 }
