@@ -1,7 +1,7 @@
 -- Laws for the proofs of the code, on plain variables. Assumes nothing.
-use mathlib.Core.Path.{_≡_, refl, sym, ap, _∙_, subst}
+use mathlib.Core.Path.{_≡_, refl, sym, ap, _∙_}
 use mathlib.Core.Bool.{Bool, true, false}
-use mathlib.Core.Logic.{_⊎_, inl, inr, ⊎-elim}
+use mathlib.Core.Logic.{_⊎_, ⊎-elim}
 use mathlib.Core.Option.{Option, none, some}
 use mathlib.Core.List.{List, [], _∷_}
 use Prim.Native.Nat.{ℕ, zero, suc, _+_, _-_, _/_, _^_, _≤_, _<_}
@@ -10,11 +10,11 @@ use native.Mathlib.Numerals.{add-one}
 use types.Run.{OneOf}
 use denote.Enum.Declared.{tagOf}
 use borrow.Author.Tests.{lt-ltb, le-ltb, le-leb, lt-leb, eq-eqb, ne-eqb, leb-true, leb-false}
-use lib.Dec.{leb, ltb, eqb}
+use lib.Dec.{leb}
 use lib.ListN.{length, getD, getElem?}
 use Rattle.definition.specs.Basics.{first, unless}
 use Rattle.definition.specs.Shapes.{scalar-widths}
-use Rattle.definition.specs.Module.{Slot, shared, private, Shared, Private, Header, address-bytes}
+use Rattle.definition.specs.Module.{Slot, shared, private, Private, Header, address-bytes}
 use Rattle.definition.specs.Layout.{shared-prefix, shared-count, count-test, scalar-bytes, if-composite, shared-size, shared-fits, shared-test}
 use Rattle.definition.specs.Layout.{entry-test, order-test, private-test, layout-test}
 use Rattle.bytecode.specs.Lists.{tabulate, tabulate-length}

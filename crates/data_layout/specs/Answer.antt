@@ -27,10 +27,12 @@ pub record Widths-of (h : Header) (w : Widths) : Type 0 where
   pub float-is : w .float ≡ h .float
   pub address-is : w .address ≡ address-bytes h
 
+-- bytes, where the kind is known
 unfoldable pub size-of : Size → Option ℕ
 size-of (Bytes n) = some n
 size-of Unknown = none
 
+-- the entry before, if there is one
 unfoldable pub before-of : Before → Option Private
 before-of Nothing = none
 before-of (Entry d) = some (private-of d)

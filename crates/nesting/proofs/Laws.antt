@@ -1,12 +1,12 @@
 -- Laws for the proofs of the code: the part that an instruction has, and what each step means. Assumes nothing.
 use mathlib.Core.Path.{_≡_, refl, sym, ap, _∙_, subst}
-use mathlib.Core.Logic.{_⊎_, inl, inr, ⊎-elim}
+use mathlib.Core.Logic.{_⊎_, inl, inr}
 use mathlib.Core.Bool.{Bool, true, false, _&&_}
 use mathlib.Core.Option.{Option, none, some}
-use mathlib.Core.List.{List, [], _∷_}
-use Prim.Native.Nat.{ℕ, zero, suc, _-_, _≤_, _<_}
+use mathlib.Core.List.{List}
+use Prim.Native.Nat.{ℕ, _-_, _≤_, _<_}
 use native.Mathlib.Omega.{arith}
-use lib.ListN.{length, getD}
+use lib.ListN.{length}
 use lib.Dec.{T, ltb, eqb}
 use borrow.Author.Tests.{ltb-true, ltb-false, eqb-true, eqb-false, lt-ltb, le-ltb, eq-eqb}
 use Rattle.definition.specs.Instructions.{Chunk, control-at, Control, onward, stops, returns, resets, endIf, endLoop, ends, ifTo, elseTo, loopTo}
@@ -24,13 +24,8 @@ use Rattle.nesting.specs.declared.Open.{Open}
 use Rattle.nesting.specs.declared.Part.{Part}
 use Rattle.nesting.specs.declared.Part.the-variants.{Other, If, Else, EndIf, Loop, EndLoop, Break}
 use Rattle.nesting.specs.declared.Step.{Step}
-use Rattle.nesting.specs.declared.Step.the-variants.{Bad, Stay, Push}
-use Rattle.nesting.specs.Blocks.{Block, Held, Names, Fits}
-
--- ── Parts ─────────────────────────────────────────────────────────────────────────────────
-
-pub inside-is : (t : List ℕ) (code : Code) (p : ℕ) (k : Control) → p < code .size → k ≡ control-in t code p → partOf k ≡ part-in t code p
-inside-is t code p k l e = ap partOf e
+use Rattle.nesting.specs.declared.Step.the-variants.{Bad, Stay}
+use Rattle.nesting.specs.Blocks.{Block, Keeps, Names, Fits}
 
 -- ── Tests ─────────────────────────────────────────────────────────────────────────────────
 
@@ -142,7 +137,7 @@ module _ (c : Chunk) (t : List ℕ) (code : Code) (inner : Open) (p : ℕ) (H : 
   unfolding loop-target
   names-if target x = inr (rw x refl, around-top c p (H .rules) m e b (subst Free (sym x) tt) (H .top))
 
-  pub if-short : (target : ℕ) → target ≤ p → control-at c p ≡ ifTo target → Held c p → ⊥
+  pub if-short : (target : ℕ) → target ≤ p → control-at c p ≡ ifTo target → Keeps c p → ⊥
   unfolding else-at else-if
   if-short target l x k =
       let n : else-at c p target ≡ none = rw (le-ltb p (target - 1) (omega arith)) in
@@ -150,15 +145,15 @@ module _ (c : Chunk) (t : List ℕ) (code : Code) (inner : Open) (p : ℕ) (H : 
 
   -- An If with an Else.
   module _ (target q : ℕ) (x : control-at c p ≡ ifTo target) (y : else-at c p target ≡ some q) where
-    pub two-short : q ≤ target - 1 → Held c p → ⊥
+    pub two-short : q ≤ target - 1 → Keeps c p → ⊥
     two-short l k = omega (arith, two-must c p m e b (H .rules) inside (H .top) target q x y k .0)
 
-    pub two-push : target - 1 < q → Closes t code inner p q EndIf → Held c p × Block c p (target - 1) q × Names c p b
+    pub two-push : target - 1 < q → Closes t code inner p q EndIf → Keeps c p × Block c p (target - 1) q × Names c p b
     two-push l (z, f) =
         let g = two-may c p m e b (H .rules) inside (H .top) target q x y l (told c t code (H .coded) q EndIf (sym z)) f in
         (g .0, g .1, names-if target x)
 
-    pub two-open : (Closes t code inner p q EndIf → ⊥) → Held c p → ⊥
+    pub two-open : (Closes t code inner p q EndIf → ⊥) → Keeps c p → ⊥
     unfolding partOf
     two-open n k =
         let g = two-must c p m e b (H .rules) inside (H .top) target q x y k in
@@ -166,36 +161,36 @@ module _ (c : Chunk) (t : List ℕ) (code : Code) (inner : Open) (p : ℕ) (H : 
 
   -- An If without one.
   module _ (target : ℕ) (x : control-at c p ≡ ifTo target) (y : else-at c p target ≡ none) where
-    pub one-push : p < target → Closes t code inner p target EndIf → Held c p × Block c p target target × Names c p b
+    pub one-push : p < target → Closes t code inner p target EndIf → Keeps c p × Block c p target target × Names c p b
     one-push l (z, f) =
         let g = one-may c p m e b (H .rules) inside (H .top) target x y l (told c t code (H .coded) target EndIf (sym z)) f in
         (g .0, g .1, names-if target x)
 
-    pub one-open : (Closes t code inner p target EndIf → ⊥) → Held c p → ⊥
+    pub one-open : (Closes t code inner p target EndIf → ⊥) → Keeps c p → ⊥
     unfolding partOf
     one-open n k =
         let g = one-must c p m e b (H .rules) inside (H .top) target x y k in
         n (part-is c t code (H .coded) target endIf (g .1), g .2)
 
   module _ (target : ℕ) (x : control-at c p ≡ loopTo target) where
-    pub loop-short : target ≤ p → Held c p → ⊥
+    pub loop-short : target ≤ p → Keeps c p → ⊥
     loop-short l k = omega (arith, loop-must c p m e b (H .rules) inside (H .top) target x k .0)
 
-    pub loop-push : p < target → Closes t code inner p (target - 1) EndLoop → Held c p × Block c p (target - 1) (target - 1) × Names c p target
+    pub loop-push : p < target → Closes t code inner p (target - 1) EndLoop → Keeps c p × Block c p (target - 1) (target - 1) × Names c p target
     loop-push l (z, f) =
         let w : control-at c (target - 1) ≡ endLoop = told c t code (H .coded) (target - 1) EndLoop (sym z) in
         let u : p < target - 1 = after (target - 1) (loopTo target) endLoop x w (λ d. zero-one (cc)) (omega arith) in
         let g = loop-may c p m e b (H .rules) inside (H .top) target x (omega arith) w f in
         (g .0, g .1, inl x)
 
-    pub loop-open : (Closes t code inner p (target - 1) EndLoop → ⊥) → Held c p → ⊥
+    pub loop-open : (Closes t code inner p (target - 1) EndLoop → ⊥) → Keeps c p → ⊥
     unfolding partOf
     loop-open n k =
         let g = loop-must c p m e b (H .rules) inside (H .top) target x k in
         n (part-is c t code (H .coded) (target - 1) endLoop (g .1), g .2)
 
   -- an instruction that opens and closes nothing
-  stays : (k : Control) → control-at c p ≡ k → if-target k ≡ none → loop-target k ≡ none → (k ≡ endIf → ⊥) → (k ≡ endLoop → ⊥) → Held c p
+  stays : (k : Control) → control-at c p ≡ k → if-target k ≡ none → loop-target k ≡ none → (k ≡ endIf → ⊥) → (k ≡ endLoop → ⊥) → Keeps c p
       → Good c p e Stay
   stays k x f l u v h = (h, not-end c p k x m e b inside (H .top) u v, no-block c p k x f l)
 

@@ -6,22 +6,20 @@ use mathlib.Core.List.{List, [], _∷_}
 use Prim.Native.Nat.{ℕ, _+_, _-_, _≤_, _<_}
 use native.Mathlib.Omega.{arith}
 use lib.Dec.{T, leb, ltb}
-use lib.ListN.{length, getD, getElem?}
+use lib.ListN.{getD}
 use types.Run.{OneOf, miss}
 use mir.Val.{hasKey}
 use denote.Enum.Declared.{tagOf}
 use borrow.Author.Tests.{lt-ltb, le-ltb, leb-true}
-use Rattle.definition.specs.Format.{bits}
-use Rattle.definition.specs.Instructions.{Chunk, control, jump-control, control-at, control-of, instr-at, Control, ends, Instr as AnyInstr}
+use Rattle.definition.specs.Instructions.{control, jump-control, control-at, control-of, instr-at, Control, ends, Instr as AnyInstr}
 use Rattle.definition.specs.Ops.{ops, row, instr, instr-of, make-at}
 use Rattle.bytecode.specs.Tables.{all-below, at-each, cap}
-use Rattle.bytecode.specs.Meaning.{maxima-of, instrAt, chunkOf, first-op, op-count, code-length, code-some, code-none}
+use Rattle.bytecode.specs.Meaning.{maxima-of, instrAt, chunkOf, op-count, code-length, code-some, code-none}
 use Rattle.bytecode.specs.Parts.{instrOf, Instr-is, Span-is}
 use Rattle.bytecode.specs.declared.Instr.{Instr}
 use Rattle.bytecode.specs.declared.Span.{Span}
 use Rattle.theorems.specs.Agree.{lt-or-ge}
 use Rattle.nesting.proofs.Part.{the-type}
-use Rattle.nesting.proofs.Decide.{zero-one}
 use Rattle.nesting.specs.Codes.{partOf, control-in, part-in, Coded, Code-is}
 use Rattle.nesting.specs.declared.Code.{Code}
 use Rattle.nesting.specs.declared.Part.{Part}

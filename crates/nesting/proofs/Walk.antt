@@ -3,15 +3,14 @@ use mathlib.Core.Path.{_≡_, refl, sym, ap, _∙_, subst}
 use mathlib.Core.Logic.{_⊎_, inl, inr}
 use mathlib.Core.Bool.{Bool, true, false, not, _&&_}
 use mathlib.Core.Option.{Option, none, some}
-use mathlib.Core.List.{List, []}
+use mathlib.Core.List.{List}
 use Prim.Native.Nat.{ℕ, zero, suc, _+_, _-_, _≤_, _<_}
 use native.Mathlib.Omega.{arith}
 use native.Mathlib.Numerals.{add-one}
 use lib.ListN.{length, getD, set}
 use lib.Seq.{getD-set-same, getD-set-other}
 use lib.Dec.{T, ltb}
-use borrow.Author.Tests.{lt-ltb, le-ltb}
-use Rattle.definition.specs.Basics.{choose}
+use borrow.Author.Tests.{lt-ltb}
 use Rattle.definition.specs.Instructions.{Chunk, control-at}
 use Rattle.definition.specs.Nesting.{rule-holds, closer, is-after, open-blocks, first-from, first-broken, too-deep}
 use Rattle.theorems.specs.Agree.{lt-or-ge, →firsts, →not-not}
@@ -26,7 +25,7 @@ use Rattle.nesting.specs.declared.Step.{Step}
 use Rattle.nesting.specs.declared.Step.the-variants.{Bad, Stay, Pop, Push}
 use Rattle.nesting.specs.declared.ChunkNesting.{ChunkNesting}
 use Rattle.nesting.specs.declared.ChunkNesting.the-variants.{Broken, TooDeep, Nested}
-use Rattle.nesting.specs.Blocks.{Block, Held, Rules, Names, No-block}
+use Rattle.nesting.specs.Blocks.{Block, Keeps, Rules, Names, No-block}
 use Rattle.nesting.specs.Answer.{Verdict, broken-of, deep-of, deeper}
 
 -- the test of `too-deep` at p
@@ -58,7 +57,7 @@ below-suc P p f g i l = go (three i p)
 
 -- ── Limit 4 ───────────────────────────────────────────────────────────────────────────────
 
-quiet-deep : (c : Chunk) (p : ℕ) → Held c p → No-block c p → deep-at c p ≡ false
+quiet-deep : (c : Chunk) (p : ℕ) → Keeps c p → No-block c p → deep-at c p ≡ false
 unfolding is-after
 quiet-deep c p h n = go (closer c p) refl
   where
@@ -135,8 +134,8 @@ module _ (c : Chunk) (t : List ℕ) (code : Code) (C : Coded c t code) where
           top = chain-top c (λ i. getD ms i 0) (λ i. getD es i 0) (λ i. getD bs i 0) p h (S .stack);
         }
 
-    rules-on : Held c p → Rules c (suc p)
-    rules-on k = below-suc (Held c) p (S .rules) k
+    rules-on : Keeps c p → Rules c (suc p)
+    rules-on k = below-suc (Keeps c) p (S .rules) k
 
     pub stay : Good c p (getD es h 0) Stay → State c ms es bs (p + 1) h found
     stay (k, n, f) =

@@ -20,11 +20,13 @@ numbers Nested = none
 
 -- ── One chunk ─────────────────────────────────────────────────────────────────────────────
 
+-- the place that breaks a rule
 unfoldable pub broken-of : ChunkNesting → Option ℕ
 broken-of (one.Broken p) = some p
 broken-of (one.TooDeep p) = none
 broken-of one.Nested = none
 
+-- the opener that makes too many open blocks
 unfoldable pub deep-of : ChunkNesting → Option ℕ
 deep-of (one.Broken p) = none
 deep-of (one.TooDeep p) = some p

@@ -31,6 +31,7 @@ partOf (breakIfTo t) = Break t
 unfoldable pub control-in : List ℕ → Code → ℕ → Control
 control-in t code p = elim (ltb p (code .size)) [ true ↦ control (instrAt t (code .first + p)) | false ↦ ends ]
 
+-- the part of the instruction at p
 abbrev pub part-in : List ℕ → Code → ℕ → Part
 part-in t code p = partOf (control-in t code p)
 

@@ -8,7 +8,7 @@ use lib.ListN.{getD}
 use lib.Dec.{ltb, eqb}
 use Rattle.definition.specs.Instructions.{Chunk, control-at, ifTo, loopTo}
 use Rattle.definition.specs.Nesting.{else-at}
-use Rattle.nesting.specs.Blocks.{Block, Held, Rules, Top, Names, Fits, No-block}
+use Rattle.nesting.specs.Blocks.{Block, Keeps, Rules, Top, Names, Fits, No-block}
 use Rattle.nesting.specs.Codes.{Coded, part-in}
 use Rattle.nesting.specs.declared.Code.{Code}
 use Rattle.nesting.specs.declared.Open.{Open}
@@ -18,10 +18,10 @@ use Rattle.nesting.specs.declared.Step.the-variants.{Bad, Stay, Pop, Pus
 
 -- What a step says of the instruction at p, where the innermost open block closes at e.
 abbrev pub Good : Chunk → ℕ → ℕ → Step → Type 0
-Good c p e Bad = Held c p → ⊥
-Good c p e Stay = Held c p × (e ≡ p → ⊥) × No-block c p
-Good c p e Pop = Held c p × (e ≡ p) × No-block c p
-Good c p e (Push o) = Held c p × Block c p (o .middle) (o .closer) × Names c p (o .target)
+Good c p e Bad = Keeps c p → ⊥
+Good c p e Stay = Keeps c p × (e ≡ p → ⊥) × No-block c p
+Good c p e Pop = Keeps c p × (e ≡ p) × No-block c p
+Good c p e (Push o) = Keeps c p × Block c p (o .middle) (o .closer) × Names c p (o .target)
 
 -- The chunk has these instructions, its rules hold below p, and the innermost block open there is given.
 pub record Here (c : Chunk) (t : List ℕ) (code : Code) (inner : Open) (p : ℕ) : Type 0 where
@@ -61,10 +61,12 @@ Tells r A = (r ≡ true → A) × (r ≡ false → A → ⊥)
 abbrev pub Closes : List ℕ → Code → Open → ℕ → ℕ → Part → Type 0
 Closes t code inner p q part = (part-in t code q ≡ part) × Fits p (inner .middle) (inner .closer) q
 
+-- the step of what opens and closes nothing, where its test holds
 abbrev pub stay-if : Bool → Step
 stay-if true = Stay
 stay-if false = Bad
 
+-- the step of a closer, where its test holds
 abbrev pub pop-if : Bool → Step
 pop-if true = Pop
 pop-if false = Bad

@@ -5,10 +5,6 @@ use Rattle.bytecode.specs.Meaning.{count-low}
 use Rattle.data_layout.proofs.Laws.{Prefix, prefix-start, prefix-more, prefix-stop, prefix-end}
 use Rattle.data_layout.proofs.prefix_shared.Statement.{statement}
 use Rattle.data_layout.proofs.prefix_shared.Tie as tie
-use Rattle.data_layout.proofs.prefix_shared.Reads as reads
-use Rattle.data_layout.proofs.prefix_shared.Lts as lts
-use Rattle.bytecode.proofs.count.Reads as count-reads
-use Rattle.bytecode.proofs.slot_shared.Reads as slot-shared-reads
 use borrow.Author.Needs.{needs}
 use native.Mathlib.Omega.{arith}
 
@@ -18,36 +14,28 @@ Inv-loop t n i₀ i = Prefix t i
 abbrev μ-loop : tie.MeasureT-loop
 μ-loop t n i₀ i = n - i
 
--- src/lib.rt:39:9
 count-requires : tie.Need-count-requires Inv-loop μ-loop
 count-requires c κs = search needs
 
--- src/lib.rt:41:5
 loop-holds : tie.Need-loop-holds Inv-loop μ-loop
 loop-holds c = prefix-start (c .before .before .args .t .now)
 
--- src/lib.rt:42:12
 slot-shared-requires : tie.Need-slot-shared-requires Inv-loop μ-loop
 unfolding cap
 slot-shared-requires c κs = omega (arith, c .before .before .count .ensures, count-low (c .before .before .before .before .args .t .now) 1)
 
--- src/lib.rt:43:13
 add-i : tie.Need-add-i Inv-loop μ-loop
 add-i c = search needs
 
--- src/lib.rt:41:5
 loop-less : tie.Need-loop-less Inv-loop μ-loop
 loop-less c = search needs
 
--- src/lib.rt:41:5
 loop-again : tie.Need-loop-again Inv-loop μ-loop
 loop-again c = prefix-more (c .before .before .before .before .before .before .args .t .now) (c .before .before .before .loop .i) (omega (arith, c .before .before .before .before .count .ensures)) (c .before .slot-shared .result) (c .if1 .taken) (c .before .slot-shared .ensures) (c .before .before .before .loop .inv)
 
--- src/lib.rt:45:13
 returns : tie.Need-returns Inv-loop μ-loop
 returns c = prefix-stop (c .before .before .before .before .before .before .args .t .now) (c .before .before .before .loop .i) (omega (arith, c .before .before .before .before .count .ensures)) (c .before .slot-shared .result) (c .if1 .left) (c .before .slot-shared .ensures) (c .before .before .before .loop .inv)
 
--- src/lib.rt:36:1
 returns-2 : tie.Need-returns-2 Inv-loop μ-loop
 returns-2 c = prefix-end (c .before .before .before .before .args .t .now) (c .before .loop .i) (omega (arith, c .before .before .count .ensures)) (c .before .loop .inv)
 

@@ -3,22 +3,16 @@ use Rattle.data_layout.proofs.Laws.{slot-past, offset-past, entry-in}
 use borrow.Author.Needs.{needs}
 use Rattle.data_layout.proofs.private_entry.Statement.{statement}
 use Rattle.data_layout.proofs.private_entry.Tie as tie
-use Rattle.data_layout.proofs.private_entry.Reads as reads
-use Rattle.data_layout.proofs.private_entry.Lts as lts
 
--- src/lib.rt:187:9
 cast-if1 : tie.Need-cast-if1
 cast-if1 c = search needs
 
--- src/lib.rt:188:9
 returns : tie.Need-returns
 returns c = slot-past (c .before .args .slots) (c .before .args .pool) (c .before .args .i) (c .before .args .e) (c .if1 .taken)
 
--- src/lib.rt:195:9
 returns-2 : tie.Need-returns-2
 returns-2 c = offset-past (c .before .before .args .slots) (c .before .before .args .pool) (c .before .before .args .i) (c .before .before .args .e) (c .before .if1 .left) (c .if2 .taken)
 
--- src/lib.rt:182:1
 returns-3 : tie.Need-returns-3
 returns-3 c = entry-in (c .before .before .args .slots) (c .before .before .args .pool) (c .before .before .args .i) (c .before .before .args .e) (c .before .if1 .left) (c .if2 .left)
 

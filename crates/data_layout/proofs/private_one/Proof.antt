@@ -3,27 +3,19 @@ use Rattle.data_layout.proofs.Laws.{first-bad, first-good}
 use borrow.Author.Needs.{needs}
 use Rattle.data_layout.proofs.private_one.Statement.{statement}
 use Rattle.data_layout.proofs.private_one.Tie as tie
-use Rattle.data_layout.proofs.private_one.Reads as reads
-use Rattle.data_layout.proofs.private_one.Lts as lts
-use Rattle.data_layout.proofs.private_entry.Reads as private-entry-reads
-use Rattle.data_layout.proofs.private_order.Reads as private-order-reads
 
--- src/lib.rt:235:9
 private-entry-requires : tie.Need-private-entry-requires
 private-entry-requires c κs = search needs
 
 enum-told : tie.Need-enum-told
 enum-told c = search needs
 
--- src/lib.rt:237:9
 returns : tie.Need-returns
 returns c = first-bad (c .before .private-entry .result) _ _ (c .match .keys2) (c .before .private-entry .ensures)
 
--- src/lib.rt:239:5
 private-order-requires : tie.Need-private-order-requires
 private-order-requires c κs = search needs
 
--- src/lib.rt:232:1
 returns-2 : tie.Need-returns-2
 returns-2 c = first-good (c .before .before .before .private-entry .result) _ _ _ (c .before .enum-told .given .1) (c .before .before .before .private-entry .ensures) (c .private-order .ensures)
 

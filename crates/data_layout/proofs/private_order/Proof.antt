@@ -3,30 +3,22 @@ use Rattle.data_layout.proofs.Laws.{first-entry, slot-order, offset-ord
 use borrow.Author.Needs.{needs}
 use Rattle.data_layout.proofs.private_order.Statement.{statement}
 use Rattle.data_layout.proofs.private_order.Tie as tie
-use Rattle.data_layout.proofs.private_order.Reads as reads
-use Rattle.data_layout.proofs.private_order.Lts as lts
 
--- src/lib.rt:211:28
 enum-told : tie.Need-enum-told
 enum-told c = search needs
 
--- src/lib.rt:212:23
 enum-known-before : tie.Need-enum-known-before
 enum-known-before c = search needs
 
--- src/lib.rt:214:17
 returns : tie.Need-returns
 returns c = slot-order (c .before .before .before .before .before .args .i) (c .before .before .before .before .before .args .before) (c .before .before .before .before .before .args .e) _ (c .before .before .before .before2 .given .1) (c .if1 .taken)
 
--- src/lib.rt:221:17
 returns-2 : tie.Need-returns-2
 returns-2 c = offset-order (c .before .before .before .before .before .before .before .args .i) (c .before .before .before .before .before .before .before .args .before) (c .before .before .before .before .before .before .before .args .e) _ (c .before .before .before .before .before .before2 .given .1) (c .before .before .if1 .left) (c .if2 .taken)
 
--- src/lib.rt:205:1
 returns-3 : tie.Need-returns-3
 returns-3 c = first-entry (c .before .before .args .i) (c .before .before .args .before) (c .before .before .args .e) (c .enum-told .given .1)
 
--- src/lib.rt:205:1
 returns-4 : tie.Need-returns-4
 returns-4 c = in-order (c .before .before .before .before .before .before .before .args .i) (c .before .before .before .before .before .before .before .args .before) (c .before .before .before .before .before .before .before .args .e) _ (c .before .before .before .before .before .before2 .given .1) (c .before .before .if1 .left) (c .if2 .left)
 

@@ -3,38 +3,28 @@ use Rattle.data_layout.proofs.Laws.{slot-out, slot-in, slot-unknown}
 use borrow.Author.Needs.{needs}
 use Rattle.data_layout.proofs.shared_slot.Statement.{statement}
 use Rattle.data_layout.proofs.shared_slot.Tie as tie
-use Rattle.data_layout.proofs.shared_slot.Reads as reads
-use Rattle.data_layout.proofs.shared_slot.Lts as lts
 
--- src/lib.rt:134:21
 enum-known-s : tie.Need-enum-known-s
 enum-known-s c = search needs
 
--- src/lib.rt:135:25
 cast-need : tie.Need-cast-need
 cast-need c = search needs
 
--- src/lib.rt:135:43
 cast-need-2 : tie.Need-cast-need-2
 cast-need-2 c = search needs
 
--- src/lib.rt:135:24
 add-need : tie.Need-add-need
 add-need c = search needs
 
--- src/lib.rt:137:17
 returns : tie.Need-returns
 returns c = slot-out (c .before .before .before .before .args .buffer) (c .before .before .before .before .args .i) (c .before .before .before .before .args .e) (c .before .before .before .before .args .s) _ (c .before .before .s .given .1) (c .if1 .taken)
 
--- src/lib.rt:146:26
 enum-told : tie.Need-enum-told
 enum-told c = search needs
 
--- src/lib.rt:129:1
 returns-2 : tie.Need-returns-2
 returns-2 c = slot-in (c .before .before .before .before .args .buffer) (c .before .before .before .before .args .i) (c .before .before .before .before .args .e) (c .before .before .before .before .args .s) _ (c .before .before .s .given .1) (c .if1 .left)
 
--- src/lib.rt:129:1
 returns-3 : tie.Need-returns-3
 returns-3 c = slot-unknown (c .before .before .args .buffer) (c .before .before .args .i) (c .before .before .args .e) (c .before .before .args .s) (c .enum-told .given .1)
 

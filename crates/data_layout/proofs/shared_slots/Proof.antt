@@ -5,14 +5,6 @@ use Rattle.bytecode.specs.Meaning.{count-low, headerOf}
 use Rattle.data_layout.proofs.Laws.{Shareds, shared-start, shared-end, shared-bad, shared-good, buffer-is}
 use Rattle.data_layout.proofs.shared_slots.Statement.{statement}
 use Rattle.data_layout.proofs.shared_slots.Tie as tie
-use Rattle.data_layout.proofs.shared_slots.Reads as reads
-use Rattle.data_layout.proofs.shared_slots.Lts as lts
-use Rattle.bytecode.proofs.count.Reads as count-reads
-use Rattle.bytecode.proofs.header_at.Reads as header-at-reads
-use Rattle.bytecode.proofs.shared_at.Reads as shared-at-reads
-use Rattle.data_layout.proofs.shared_slot.Reads as shared-slot-reads
-use Rattle.data_layout.proofs.size_of.Reads as size-of-reads
-use Rattle.data_layout.proofs.widths.Reads as widths-reads
 use borrow.Author.Needs.{needs}
 use native.Mathlib.Omega.{arith}
 
@@ -22,61 +14,49 @@ Inv-loop t buffer w n i₀ i = Shareds t i
 abbrev μ-loop : tie.MeasureT-loop
 μ-loop t buffer w n i₀ i = n - i
 
--- src/lib.rt:158:9
 header-at-requires : tie.Need-header-at-requires Inv-loop μ-loop
 header-at-requires c κs = search needs
 
--- src/lib.rt:160:9
 widths-requires : tie.Need-widths-requires Inv-loop μ-loop
 widths-requires c κs = search needs
 
--- src/lib.rt:161:9
 count-requires : tie.Need-count-requires Inv-loop μ-loop
 count-requires c κs = search needs
 
--- src/lib.rt:163:5
 loop-holds : tie.Need-loop-holds Inv-loop μ-loop
 loop-holds c = shared-start (c .before .before .before .before .args .t .now)
 
--- src/lib.rt:164:13
 shared-at-requires : tie.Need-shared-at-requires Inv-loop μ-loop
 unfolding cap
 shared-at-requires c κs = omega (arith, c .before .before .count .ensures, count-low (c .before .before .before .before .before .before .args .t .now) 2)
 
--- src/lib.rt:165:13
 size-of-requires : tie.Need-size-of-requires Inv-loop μ-loop
 size-of-requires c κs = search needs
 
--- src/lib.rt:166:13
 shared-slot-requires : tie.Need-shared-slot-requires Inv-loop μ-loop
 shared-slot-requires c κs = search needs
 
 enum-told : tie.Need-enum-told Inv-loop μ-loop
 enum-told c = search needs
 
--- src/lib.rt:168:13
 returns : tie.Need-returns Inv-loop μ-loop
 returns c =
     shared-bad (c .before .before .before .before .before .before .before .before .before .before .args .t .now) (c .before .before .before .before .before .loop .i) (omega (arith, c .before .before .before .before .before .before .count .ensures)) (c .before .before .before .before .before .loop .inv) (c .before .before .before .before .before .before .before .before .header-at .result .«shared_bytes») (buffer-is (c .before .before .before .before .before .before .before .before .before .before .args .t .now) (c .before .before .before .before .before .before .before .before .header-at .result) (c .before .before .before .before .before .before .before .before .header-at .ensures))
     (c .before .before .before .shared-at .result) (c .before .before .before .shared-at .ensures) (c .before .before .size-of .result) (c .before .before .size-of .ensures (headerOf (c .before .before .before .before .before .before .before .before .before .before .args .t .now)) (c .before .before .before .before .before .before .before .widths .ensures)) (c .before .shared-slot .result) (c .before .shared-slot .ensures)
     (c .match .keys2)
 
--- src/lib.rt:170:9
 add-i : tie.Need-add-i Inv-loop μ-loop
 add-i c = search needs
 
--- src/lib.rt:163:5
 loop-less : tie.Need-loop-less Inv-loop μ-loop
 loop-less c = search needs
 
--- src/lib.rt:163:5
 loop-again : tie.Need-loop-again Inv-loop μ-loop
 loop-again c =
     shared-good (c .before .before .before .before .before .before .before .before .before .before .before .args .t .now) (c .before .before .before .before .before .before .loop .i) (omega (arith, c .before .before .before .before .before .before .before .count .ensures)) (c .before .before .before .before .before .before .loop .inv) (c .before .before .before .before .before .before .before .before .before .header-at .result .«shared_bytes») (buffer-is (c .before .before .before .before .before .before .before .before .before .before .before .args .t .now) (c .before .before .before .before .before .before .before .before .before .header-at .result) (c .before .before .before .before .before .before .before .before .before .header-at .ensures))
     (c .before .before .before .before .shared-at .result) (c .before .before .before .before .shared-at .ensures) (c .before .before .before .size-of .result) (c .before .before .before .size-of .ensures (headerOf (c .before .before .before .before .before .before .before .before .before .before .before .args .t .now)) (c .before .before .before .before .before .before .before .before .widths .ensures)) (c .before .before .shared-slot .result) (c .before .before .shared-slot .ensures)
     (c .enum-told .given .1)
 
--- src/lib.rt:155:1
 returns-2 : tie.Need-returns-2 Inv-loop μ-loop
 returns-2 c = shared-end (c .before .before .before .before .before .before .args .t .now) (c .before .loop .i) (omega (arith, c .before .before .count .ensures)) (c .before .loop .inv)
 

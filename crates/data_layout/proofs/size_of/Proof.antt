@@ -4,33 +4,23 @@ use Rattle.data_layout.proofs.Laws.{size-composite, size-scalar, size-u
 use borrow.Author.Needs.{needs}
 use Rattle.data_layout.proofs.size_of.Statement.{statement}
 use Rattle.data_layout.proofs.size_of.Tie as tie
-use Rattle.data_layout.proofs.size_of.Reads as reads
-use Rattle.data_layout.proofs.size_of.Lts as lts
-use Rattle.value_layout.proofs.Widths.size_in_bytes.Reads as size-in-bytes-reads
-use Rattle.value_layout.proofs.is_scalar_tag.Reads as is-scalar-tag-reads
 use native.Mathlib.Omega.{arith}
 
--- src/lib.rt:120:28
 cast-t6 : tie.Need-cast-t6
 cast-t6 c = search needs
 
--- src/lib.rt:120:9
 returns : tie.Need-returns
 returns c = λ h W. size-composite (c .before .args .w) (c .before .args .e) h W (c .if1 .taken)
 
--- src/lib.rt:122:8
 is-scalar-tag-requires : tie.Need-is-scalar-tag-requires
 is-scalar-tag-requires c κs = search needs
 
--- src/lib.rt:123:28
 size-in-bytes-requires : tie.Need-size-in-bytes-requires
 size-in-bytes-requires c κs = search needs
 
--- src/lib.rt:123:9
 returns-2 : tie.Need-returns-2
 returns-2 c = λ h W. size-scalar (c .before .before .before .before .args .w) (c .before .before .before .before .args .e) h W (c .size-in-bytes .result) (omega arith) (sym (c .before .before .is-scalar-tag .ensures) ∙ c .before .if2 .taken) (c .size-in-bytes .ensures)
 
--- src/lib.rt:114:1
 returns-3 : tie.Need-returns-3
 returns-3 c = λ h W. size-unknown (c .before .before .before .args .w) (c .before .before .before .args .e) h W (omega arith) (sym (c .before .is-scalar-tag .ensures) ∙ c .if2 .left)
 

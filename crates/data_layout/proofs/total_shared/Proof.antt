@@ -5,10 +5,6 @@ use Rattle.bytecode.specs.Meaning.{count-low}
 use Rattle.data_layout.proofs.Laws.{Count, count-start, count-more, count-past, count-end}
 use Rattle.data_layout.proofs.total_shared.Statement.{statement}
 use Rattle.data_layout.proofs.total_shared.Tie as tie
-use Rattle.data_layout.proofs.total_shared.Reads as reads
-use Rattle.data_layout.proofs.total_shared.Lts as lts
-use Rattle.bytecode.proofs.count.Reads as count-reads
-use Rattle.bytecode.proofs.slot_shared.Reads as slot-shared-reads
 use borrow.Author.Needs.{needs}
 use native.Mathlib.Omega.{arith}
 
@@ -18,48 +14,37 @@ Inv-loop t n total₀ i₀ total i = (total ≤ i) × Count t total i
 abbrev μ-loop : tie.MeasureT-loop
 μ-loop t n total₀ i₀ total i = n - i
 
--- src/lib.rt:55:9
 count-requires : tie.Need-count-requires Inv-loop μ-loop
 count-requires c κs = search needs
 
--- src/lib.rt:58:5
 loop-holds : tie.Need-loop-holds Inv-loop μ-loop
 loop-holds c = (omega arith, count-start (c .before .before .args .t .now))
 
--- src/lib.rt:59:12
 slot-shared-requires : tie.Need-slot-shared-requires Inv-loop μ-loop
 unfolding cap
 slot-shared-requires c κs = omega (arith, c .before .before .count .ensures, count-low (c .before .before .before .before .args .t .now) 1)
 
--- src/lib.rt:60:13
 add-total : tie.Need-add-total Inv-loop μ-loop
 add-total c = search needs
 
--- src/lib.rt:61:13
 add-i : tie.Need-add-i Inv-loop μ-loop
 add-i c = search needs
 
--- src/lib.rt:58:5
 loop-less : tie.Need-loop-less Inv-loop μ-loop
 loop-less c = search needs
 
--- src/lib.rt:58:5
 loop-again : tie.Need-loop-again Inv-loop μ-loop
 loop-again c = (omega arith, count-more (c .before .before .before .before .before .before .args .t .now) (c .before .before .before .loop .i) (omega (arith, c .before .before .before .before .count .ensures)) (c .before .before .before .loop .total) (c .before .slot-shared .result) (c .if1 .taken) (c .before .slot-shared .ensures) (c .before .before .before .loop .inv .1))
 
--- src/lib.rt:63:13
 add-i-2 : tie.Need-add-i-2 Inv-loop μ-loop
 add-i-2 c = search needs
 
--- src/lib.rt:58:5
 loop-less-2 : tie.Need-loop-less-2 Inv-loop μ-loop
 loop-less-2 c = search needs
 
--- src/lib.rt:58:5
 loop-again-2 : tie.Need-loop-again-2 Inv-loop μ-loop
 loop-again-2 c = (omega arith, count-past (c .before .before .before .before .before .before .args .t .now) (c .before .before .before .loop .i) (omega (arith, c .before .before .before .before .count .ensures)) (c .before .before .before .loop .total) (c .before .slot-shared .result) (c .if1 .left) (c .before .slot-shared .ensures) (c .before .before .before .loop .inv .1))
 
--- src/lib.rt:52:1
 returns : tie.Need-returns Inv-loop μ-loop
 returns c = count-end (c .before .before .before .before .args .t .now) (c .before .loop .i) (c .before .loop .total) (omega (arith, c .before .before .count .ensures)) (c .before .loop .inv .1)
 

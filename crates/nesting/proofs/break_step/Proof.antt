@@ -3,20 +3,14 @@ use Rattle.nesting.proofs.Laws.{break-in, break-out}
 use borrow.Author.Needs.{needs}
 use Rattle.nesting.proofs.break_step.Statement.{statement}
 use Rattle.nesting.proofs.break_step.Tie as tie
-use Rattle.nesting.proofs.break_step.Reads as reads
-use Rattle.nesting.proofs.break_step.Lts as lts
-use Rattle.nesting.proofs.stay_if.Reads as stay-if-reads
 use native.Mathlib.Omega.{arith}
 
--- src/lib.rt:210:9
 stay-if-requires : tie.Need-stay-if-requires
 stay-if-requires c κs = search needs
 
--- src/lib.rt:210:9
 returns : tie.Need-returns
 returns c = break-in (c .before .before .args .target) (c .before .before .args .around) (c .stay-if .result) (c .before .if1 .taken) (c .stay-if .ensures)
 
--- src/lib.rt:206:1
 returns-2 : tie.Need-returns-2
 returns-2 c = break-out (c .before .args .target) (c .before .args .around) (omega arith)
 

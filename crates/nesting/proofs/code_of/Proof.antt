@@ -5,21 +5,15 @@ use Rattle.nesting.proofs.Parts.{code-is}
 use borrow.Author.Needs.{needs}
 use Rattle.nesting.proofs.code_of.Statement.{statement}
 use Rattle.nesting.proofs.code_of.Tie as tie
-use Rattle.nesting.proofs.code_of.Reads as reads
-use Rattle.nesting.proofs.code_of.Lts as lts
-use Rattle.bytecode.proofs.instructions_of.Reads as instructions-of-reads
 use native.Mathlib.Omega.{arith}
 
--- src/lib.rt:306:9
 instructions-of-requires : tie.Need-instructions-of-requires
 instructions-of-requires c κs = search needs
 
--- src/lib.rt:308:16
 cast-size : tie.Need-cast-size
 unfolding cap
 cast-size c = omega (arith, c .before .instructions-of .ensures .within)
 
--- src/lib.rt:302:1
 returns : tie.Need-returns
 returns c = code-is (c .before .before .before .args .t .now) (c .before .before .before .args .k) (c .before .instructions-of .result) _ (c .before .instructions-of .ensures) refl refl
 

@@ -7,28 +7,19 @@ use Rattle.nesting.specs.declared.Part.the-variants.{EndIf}
 use borrow.Author.Needs.{needs}
 use Rattle.nesting.proofs.ends_if.Statement.{statement}
 use Rattle.nesting.proofs.ends_if.Tie as tie
-use Rattle.nesting.proofs.ends_if.Reads as reads
-use Rattle.nesting.proofs.ends_if.Lts as lts
-use Rattle.nesting.proofs.part_at.Reads as part-at-reads
-use Rattle.nesting.proofs.within.Reads as within-reads
 
--- src/lib.rt:112:9
 part-at-requires : tie.Need-part-at-requires
 part-at-requires c κs = search needs
 
--- src/lib.rt:114:24
 enum-told : tie.Need-enum-told
 enum-told c = search needs
 
--- src/lib.rt:114:24
 within-requires : tie.Need-within-requires
 within-requires c κs = search needs
 
--- src/lib.rt:108:1
 returns : tie.Need-returns
 returns c = both-tell (c .within .result) (sym (c .before .before .before .part-at .ensures) ∙ c .before .enum-told .given .1) (c .within .ensures)
 
--- src/lib.rt:108:1
 returns-2 : tie.Need-returns-2
 returns-2 c = no-tell (λ h. differs (0 ∷ 1 ∷ 2 ∷ 4 ∷ 5 ∷ 6 ∷ []) (c .before .part-at .result) EndIf (c .match .keys2) tt (c .before .part-at .ensures ∙ h .0))
 

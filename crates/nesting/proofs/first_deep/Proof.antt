@@ -3,22 +3,16 @@ use Rattle.nesting.proofs.Found.{deep-new, deep-none, deep-old}
 use borrow.Author.Needs.{needs}
 use Rattle.nesting.proofs.first_deep.Statement.{statement}
 use Rattle.nesting.proofs.first_deep.Tie as tie
-use Rattle.nesting.proofs.first_deep.Reads as reads
-use Rattle.nesting.proofs.first_deep.Lts as lts
 
--- src/lib.rt:241:16
 enum-told : tie.Need-enum-told
 enum-told c = search needs
 
--- src/lib.rt:242:17
 returns : tie.Need-returns
 returns c = deep-new (c .before .before .before .args .found) (c .before .before .before .args .h) (c .before .before .before .args .p) (c .before .enum-told .given .1) (c .if1 .taken)
 
--- src/lib.rt:236:1
 returns-2 : tie.Need-returns-2
 returns-2 c = deep-none (c .before .before .before .args .found) (c .before .before .before .args .h) (c .before .before .before .args .p) (c .before .enum-told .given .1) (c .if1 .left)
 
--- src/lib.rt:236:1
 returns-3 : tie.Need-returns-3
 returns-3 c = deep-old (c .before .args .found) (c .before .args .h) (c .before .args .p) (c .match .keys2)
 

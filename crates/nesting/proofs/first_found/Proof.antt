@@ -3,18 +3,13 @@ use Rattle.nesting.proofs.Found.{found-new, found-old}
 use borrow.Author.Needs.{needs}
 use Rattle.nesting.proofs.first_found.Statement.{statement}
 use Rattle.nesting.proofs.first_found.Tie as tie
-use Rattle.nesting.proofs.first_found.Reads as reads
-use Rattle.nesting.proofs.first_found.Lts as lts
 
--- src/lib.rt:317:28
 enum-told : tie.Need-enum-told
 enum-told c = search needs
 
--- src/lib.rt:313:1
 returns : tie.Need-returns
 returns c = found-new (c .before .before .args .found) (c .before .before .args .k) (c .before .before .args .p) (c .enum-told .given .1)
 
--- src/lib.rt:313:1
 returns-2 : tie.Need-returns-2
 returns-2 c = found-old (c .before .args .found) (c .before .args .k) (c .before .args .p) (c .match .keys2)
 

@@ -3,30 +3,22 @@ use Rattle.nesting.proofs.Laws.{loop-short, loop-push, loop-open}
 use borrow.Author.Needs.{needs}
 use Rattle.nesting.proofs.loop_step.Statement.{statement}
 use Rattle.nesting.proofs.loop_step.Tie as tie
-use Rattle.nesting.proofs.loop_step.Reads as reads
-use Rattle.nesting.proofs.loop_step.Lts as lts
-use Rattle.nesting.proofs.ends_loop.Reads as ends-loop-reads
 use native.Mathlib.Omega.{arith}
 
--- src/lib.rt:178:9
 returns : tie.Need-returns
 returns c = λ d H x. loop-short d (c .before .before .args .t .now) (c .before .before .args .code) (c .before .before .args .inner) (c .before .before .args .p) H (c .before .before .args .target) x (c .if1 .taken)
 
--- src/lib.rt:180:18
 sub-closer : tie.Need-sub-closer
 sub-closer c = search needs
 
--- src/lib.rt:181:8
 ends-loop-requires : tie.Need-ends-loop-requires
 ends-loop-requires c κs = search needs
 
--- src/lib.rt:182:9
 returns-2 : tie.Need-returns-2
 returns-2 c =
     λ d H x. loop-push d (c .before .before .before .before .args .t .now) (c .before .before .before .before .args .code) (c .before .before .before .before .args .inner) (c .before .before .before .before .args .p) H (c .before .before .before .before .args .target) x (omega arith)
     (c .before .ends-loop .ensures .0 (c .if2 .taken))
 
--- src/lib.rt:173:1
 returns-3 : tie.Need-returns-3
 returns-3 c =
     λ d H x. loop-open d (c .before .before .before .before .args .t .now) (c .before .before .before .before .args .code) (c .before .before .before .before .args .inner) (c .before .before .before .before .args .p) H (c .before .before .before .before .args .target) x

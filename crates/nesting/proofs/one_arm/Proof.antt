@@ -3,21 +3,15 @@ use Rattle.nesting.proofs.Laws.{one-push, one-open}
 use borrow.Author.Needs.{needs}
 use Rattle.nesting.proofs.one_arm.Statement.{statement}
 use Rattle.nesting.proofs.one_arm.Tie as tie
-use Rattle.nesting.proofs.one_arm.Reads as reads
-use Rattle.nesting.proofs.one_arm.Lts as lts
-use Rattle.nesting.proofs.ends_if.Reads as ends-if-reads
 
--- src/lib.rt:151:8
 ends-if-requires : tie.Need-ends-if-requires
 ends-if-requires c κs = search needs
 
--- src/lib.rt:153:9
 returns : tie.Need-returns
 returns c =
     λ d H l x y. one-push d (c .before .before .before .args .t .now) (c .before .before .before .args .code) (c .before .before .before .args .inner) (c .before .before .before .args .p) H (c .before .before .before .args .closer) x y l
     (c .before .ends-if .ensures .0 (c .if1 .taken))
 
--- src/lib.rt:147:1
 returns-2 : tie.Need-returns-2
 returns-2 c =
     λ d H l x y. one-open d (c .before .before .before .args .t .now) (c .before .before .before .args .code) (c .before .before .before .args .inner) (c .before .before .before .args .p) H (c .before .before .before .args .closer) x y

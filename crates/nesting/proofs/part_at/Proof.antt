@@ -3,28 +3,19 @@ use Rattle.nesting.proofs.Parts.{part-inside, part-past}
 use borrow.Author.Needs.{needs}
 use Rattle.nesting.proofs.part_at.Statement.{statement}
 use Rattle.nesting.proofs.part_at.Tie as tie
-use Rattle.nesting.proofs.part_at.Reads as reads
-use Rattle.nesting.proofs.part_at.Lts as lts
-use Rattle.bytecode.proofs.instr_at.Reads as instr-at-reads
-use Rattle.nesting.proofs.part_of.Reads as part-of-reads
 
--- src/lib.rt:89:39
 add-instr-at : tie.Need-add-instr-at
 add-instr-at c = search needs
 
--- src/lib.rt:89:13
 instr-at-requires : tie.Need-instr-at-requires
 instr-at-requires c κs = search needs
 
--- src/lib.rt:90:9
 part-of-requires : tie.Need-part-of-requires
 part-of-requires c κs = search needs
 
--- src/lib.rt:90:9
 returns : tie.Need-returns
 returns c = part-inside (c .before .before .before .before .args .t .now) (c .before .before .before .before .args .code) (c .before .before .before .before .args .p) (c .part-of .result) (c .before .instr-at .result) (c .before .before .if1 .taken) (c .before .instr-at .ensures) (c .part-of .ensures)
 
--- src/lib.rt:82:1
 returns-2 : tie.Need-returns-2
 returns-2 c = part-past (c .before .before .args .t .now) (c .before .before .args .code) (c .before .before .args .p) (c .if1 .left)
 

@@ -5,106 +5,77 @@ use Rattle.nesting.specs.declared.Part.the-variants.{If, Loop}
 use borrow.Author.Needs.{needs}
 use Rattle.nesting.proofs.step_at.Statement.{statement}
 use Rattle.nesting.proofs.step_at.Tie as tie
-use Rattle.nesting.proofs.step_at.Reads as reads
-use Rattle.nesting.proofs.step_at.Lts as lts
-use Rattle.nesting.proofs.break_step.Reads as break-step-reads
-use Rattle.nesting.proofs.if_step.Reads as if-step-reads
-use Rattle.nesting.proofs.loop_step.Reads as loop-step-reads
-use Rattle.nesting.proofs.part_at.Reads as part-at-reads
-use Rattle.nesting.proofs.pop_if.Reads as pop-if-reads
-use Rattle.nesting.proofs.stay_if.Reads as stay-if-reads
 
--- src/lib.rt:220:9
 part-at-requires : tie.Need-part-at-requires
 part-at-requires c κs = search needs
 
--- src/lib.rt:225:24
 enum-told : tie.Need-enum-told
 enum-told c = search needs
 
--- src/lib.rt:226:18
 enum-known-part : tie.Need-enum-known-part
 enum-known-part c = search needs
 
--- src/lib.rt:226:29
 if-step-requires : tie.Need-if-step-requires
 if-step-requires c κs = search needs
 
--- src/lib.rt:227:34
 enum-told-2 : tie.Need-enum-told-2
 enum-told-2 c = search needs
 
--- src/lib.rt:227:26
 stay-if-requires : tie.Need-stay-if-requires
 stay-if-requires c κs = search needs
 
--- src/lib.rt:228:31
 enum-told-3 : tie.Need-enum-told-3
 enum-told-3 c = search needs
 
--- src/lib.rt:228:24
 pop-if-requires : tie.Need-pop-if-requires
 pop-if-requires c κs = search needs
 
--- src/lib.rt:229:20
 enum-known-part-2 : tie.Need-enum-known-part-2
 enum-known-part-2 c = search needs
 
--- src/lib.rt:229:31
 loop-step-requires : tie.Need-loop-step-requires
 loop-step-requires c κs = search needs
 
--- src/lib.rt:230:33
 enum-told-4 : tie.Need-enum-told-4
 enum-told-4 c = search needs
 
--- src/lib.rt:230:26
 pop-if-requires-2 : tie.Need-pop-if-requires-2
 pop-if-requires-2 c κs = search needs
 
--- src/lib.rt:231:21
 enum-known-part-3 : tie.Need-enum-known-part-3
 enum-known-part-3 c = search needs
 
--- src/lib.rt:231:32
 break-step-requires : tie.Need-break-step-requires
 break-step-requires c κs = search needs
 
--- src/lib.rt:216:1
 returns : tie.Need-returns
 returns c = λ d H. other-good d (c .before .before .before .before .args .t .now) (c .before .before .before .before .args .code) (c .before .before .before .before .args .inner) (c .before .before .before .before .args .p) H (sym (c .enum-told .given .1) ∙ c .before .before .part-at .ensures)
 
--- src/lib.rt:216:1
 returns-2 : tie.Need-returns-2
 returns-2 c =
     λ d H. c .if-step .ensures d H
     (told d (c .before .before .before .before .before .before .args .t .now) (c .before .before .before .before .before .before .args .code) (H .coded) (c .before .before .before .before .before .before .args .p) (If _) (sym (c .before .before .part .given .1) ∙ c .before .before .before .before .part-at .ensures))
 
--- src/lib.rt:216:1
 returns-3 : tie.Need-returns-3
 returns-3 c =
     λ d H. else-good d (c .before .before .before .before .before .args .t .now) (c .before .before .before .before .before .args .code) (c .before .before .before .before .before .args .inner) (c .before .before .before .before .before .args .p) H (c .stay-if .result) _
     (sym (c .before .enum-told2 .given .1) ∙ c .before .before .before .part-at .ensures) (c .stay-if .ensures)
 
--- src/lib.rt:216:1
 returns-4 : tie.Need-returns-4
 returns-4 c =
     λ d H. endIf-good d (c .before .before .before .before .before .args .t .now) (c .before .before .before .before .before .args .code) (c .before .before .before .before .before .args .inner) (c .before .before .before .before .before .args .p) H (c .pop-if .result)
     (sym (c .before .enum-told3 .given .1) ∙ c .before .before .before .part-at .ensures) (c .pop-if .ensures)
 
--- src/lib.rt:216:1
 returns-5 : tie.Need-returns-5
 returns-5 c =
     λ d H. c .loop-step .ensures d H
     (told d (c .before .before .before .before .before .before .args .t .now) (c .before .before .before .before .before .before .args .code) (H .coded) (c .before .before .before .before .before .before .args .p) (Loop _) (sym (c .before .before .part2 .given .1) ∙ c .before .before .before .before .part-at .ensures))
 
--- src/lib.rt:216:1
 returns-6 : tie.Need-returns-6
 returns-6 c =
     λ d H. endLoop-good d (c .before .before .before .before .before .args .t .now) (c .before .before .before .before .before .args .code) (c .before .before .before .before .before .args .inner) (c .before .before .before .before .before .args .p) H (c .pop-if2 .result)
     (sym (c .before .enum-told4 .given .1) ∙ c .before .before .before .part-at .ensures) (c .pop-if2 .ensures)
 
--- src/lib.rt:216:1
 returns-7 : tie.Need-returns-7
 returns-7 c =
     λ d H. break-good d (c .before .before .before .before .before .before .args .t .now) (c .before .before .before .before .before .before .args .code) (c .before .before .before .before .before .before .args .inner) (c .before .before .before .before .before .before .args .p) H (c .break-step .result) _

@@ -2,14 +2,10 @@
 use Rattle.nesting.proofs.Laws.{within-first, within-second}
 use Rattle.nesting.proofs.within.Statement.{statement}
 use Rattle.nesting.proofs.within.Tie as tie
-use Rattle.nesting.proofs.within.Reads as reads
-use Rattle.nesting.proofs.within.Lts as lts
 
--- src/lib.rt:102:9
 returns : tie.Need-returns
 returns c = within-first (c .before .args .p) (c .before .args .inner .middle) (c .before .args .inner .closer) (c .before .args .q) (c .if1 .taken)
 
--- src/lib.rt:96:1
 returns-2 : tie.Need-returns-2
 returns-2 c = within-second (c .before .args .p) (c .before .args .inner .middle) (c .before .args .inner .closer) (c .before .args .q) (c .if1 .left)
 

@@ -5,10 +5,6 @@ use Rattle.bytecode.specs.Meaning.{count as countOf, count-low}
 use Rattle.sheets.proofs.Laws.{Sum, sum-start, sum-more, sum-end}
 use Rattle.sheets.proofs.all_instructions.Statement.{statement}
 use Rattle.sheets.proofs.all_instructions.Tie as tie
-use Rattle.sheets.proofs.all_instructions.Reads as reads
-use Rattle.sheets.proofs.all_instructions.Lts as lts
-use Rattle.bytecode.proofs.count.Reads as count-reads
-use Rattle.bytecode.proofs.instructions_of.Reads as instructions-of-reads
 use borrow.Author.Needs.{needs}
 use native.Mathlib.Omega.{arith}
 
@@ -18,33 +14,26 @@ Inv-loop t n total₀ k₀ total k = (total ≤ 4096 * k) × Sum t total k
 abbrev μ-loop : tie.MeasureT-loop
 μ-loop t n total₀ k₀ total k = n - k
 
--- src/lib.rt:21:9
 count-requires : tie.Need-count-requires Inv-loop μ-loop
 count-requires c κs = search needs
 
--- src/lib.rt:24:5
 loop-holds : tie.Need-loop-holds Inv-loop μ-loop
 loop-holds c = (omega arith, sum-start (c .before .before .args .t .now))
 
--- src/lib.rt:25:13
 instructions-of-requires : tie.Need-instructions-of-requires Inv-loop μ-loop
 unfolding cap
 instructions-of-requires c κs = omega (arith, c .before .before .count .ensures, count-low (c .before .before .before .before .args .t .now) 7)
 
--- src/lib.rt:26:9
 add-total : tie.Need-add-total Inv-loop μ-loop
 unfolding cap
 add-total c = omega (arith, c .before .before .before .loop .inv .0, c .before .before .before .before .count .ensures, count-low (c .before .before .before .before .before .before .args .t .now) 7, c .before .instructions-of .ensures .within)
 
--- src/lib.rt:27:9
 add-k : tie.Need-add-k Inv-loop μ-loop
 add-k c = search needs
 
--- src/lib.rt:24:5
 loop-less : tie.Need-loop-less Inv-loop μ-loop
 loop-less c = search needs
 
--- src/lib.rt:24:5
 loop-again : tie.Need-loop-again Inv-loop μ-loop
 unfolding cap
 loop-again c = (
@@ -52,7 +41,6 @@ loop-again c = (
   sum-more (c .before .before .before .before .before .before .args .t .now) (c .before .before .before .loop .total) (c .before .before .before .loop .k) (c .before .instructions-of .result .count) (omega (arith, c .before .before .before .before .count .ensures)) (c .before .instructions-of .ensures .count-is) (c .before .before .before .loop .inv .1),
 )
 
--- src/lib.rt:18:1
 returns : tie.Need-returns Inv-loop μ-loop
 returns c = sum-end (c .before .before .before .before .args .t .now) (c .before .loop .total) (c .before .loop .k) (omega (arith, c .before .before .count .ensures)) (c .before .loop .inv .1)
 
