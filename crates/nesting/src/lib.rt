@@ -137,11 +137,11 @@ fn two_arms(t: &[u64], code: Code, inner: Open, p: u16, middle: u16, closer: u16
         return Step::Bad;
     }
     if ends_if(t, code, inner, p, closer) {
-        let target = inner.target;
+        let around = inner.target;
         return Step::Push(Open {
             middle: middle,
             closer: closer,
-            target: target,
+            target: around,
         });
     }
     Step::Bad
@@ -153,11 +153,11 @@ fn one_arm(t: &[u64], code: Code, inner: Open, p: u16, closer: u16) -> Step
     ensures { λ r. ⌜ Right-one (now (t .entry)) code inner p closer r ⌝ }
 {
     if ends_if(t, code, inner, p, closer) {
-        let target = inner.target;
+        let around = inner.target;
         return Step::Push(Open {
             middle: closer,
             closer: closer,
-            target: target,
+            target: around,
         });
     }
     Step::Bad
