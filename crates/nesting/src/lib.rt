@@ -14,7 +14,7 @@ ghost use Rattle.nesting.specs.Steps.{Right, Right-two, Right-one, Right
 use bytecode;
 
 // An instruction's part in nesting. BreakIf is as Break.
-pub enum Part {
+enum Part {
     Other,
     If(u16),
     Else(u16),
@@ -25,20 +25,20 @@ pub enum Part {
 }
 
 // The instructions of a chunk among all.
-pub struct Code {
-    pub first: usize,
-    pub size: u16,
+struct Code {
+    first: usize,
+    size: u16,
 }
 
 // An open block: where its first arm ends, where it closes, and the target of the innermost loop that is open in it, or 0.
-pub struct Open {
-    pub middle: u16,
-    pub closer: u16,
-    pub target: u16,
+struct Open {
+    middle: u16,
+    closer: u16,
+    target: u16,
 }
 
 // What an instruction does to the stack of open blocks.
-pub enum Step {
+enum Step {
     Bad,
     Stay,
     Pop,
@@ -46,7 +46,7 @@ pub enum Step {
 }
 
 // Of one chunk: the first instruction that breaks a rule, or the first opener making more than eight open blocks.
-pub enum ChunkNesting {
+enum ChunkNesting {
     Broken(u16),
     TooDeep(u16),
     Nested,
