@@ -747,7 +747,7 @@ fn settle(s: State, r: Rule, ip: usize) -> Step
 // ---- one instruction
 
 // The rule of every name but SetLocal.
-fn rule(t: &[u64], x: Ctx, i: Instr, e: Effect, s: State, ip: usize) -> Rule
+fn rule_of(t: &[u64], x: Ctx, i: Instr, e: Effect, s: State, ip: usize) -> Rule
     requires { ⌜ Of (now t) (x .chunk) x ⌝ }
     requires { ⌜ Within i × (i .code ≡ 5 → ⊥) × Effect-is i (x .«index_trap») (x .«host_trap») e × (e .need ≤ s .height) × (s .height ≤ 64) ⌝ }
     ensures { λ r. ⌜ Rules (chunkOf (now (t .entry)) (x .chunk)) ip (instrOf i) (stateOf (x .locals) s) r ⌝ }
@@ -806,7 +806,7 @@ fn apply_op(t: &[u64], x: Ctx, i: Instr, e: Effect, s: State, ip: usize) -> Step
     if i.code == 5 {
         return set_local(t, x, s, i.a, ip);
     }
-    let r = rule(t, x, i, e, s, ip);
+    let r = rule_of(t, x, i, e, s, ip);
     let verdict = r.verdict;
     if verdict.passed() {
         return settle(s, r, ip);

@@ -1,0 +1,6 @@
+pub mod Tests
+pub mod Signed
+pub mod Rules
+pub mod Calls
+pub mod Steps
+pub mod Codes
