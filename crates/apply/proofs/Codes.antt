@@ -2,7 +2,7 @@
 -- Assumes nothing.
 use mathlib.Core.Path.{_≡_, refl, sym, ap, subst, _∙_}
 use mathlib.Core.Bool.{Bool, true, false}
-use mathlib.Core.Logic.{_⊎_, ⊎-elim}
+use mathlib.Core.Logic.{_⊎_, inl, inr, ⊎-elim}
 use mathlib.Core.List.{List, [], _∷_}
 use Prim.Native.Nat.{ℕ, zero, suc, _+_, _≤_, _<_}
 use native.Mathlib.Nat.{eq-or-lt-of-le}
@@ -181,92 +181,242 @@ module _ (i : Instr) (c : Chunk) where
 
   all-right : Each Right 0 75
   unfolding is-member is-generic pushes effect instr instr-of ops row make-at
-  all-right =
-      (own-rule,
-      (own-rule,
-      ((λ e. (refl, lit≤ tt)),
-      ((λ e. (refl, lit≤ tt)),
-      (own-rule,
-      (own-rule,
-      ((λ e. (refl, lit≤ tt)),
-      (own-rule,
-      (own-rule,
-      (own-rule,
-      (own-rule,
-      (own-rule,
-      (own-rule,
-      ((λ e. (refl, lit≤ tt)),
-      ((λ e. (refl, lit≤ tt)),
-      ((λ e. (refl, lit≤ tt)),
-      ((λ e. (refl, lit≤ tt)),
-      ((λ e. (refl, lit≤ tt)),
-      ((λ e. (refl, lit≤ tt)),
-      ((λ e. (refl, lit≤ tt)),
-      ((λ e. (refl, lit≤ tt)),
-      ((λ e. (refl, lit≤ tt)),
-      ((λ e. (refl, lit≤ tt)),
-      ((λ e. (refl, lit≤ tt)),
-      ((λ e. (refl, lit≤ tt)),
-      ((λ e. (refl, lit≤ tt)),
-      ((λ e. (refl, lit≤ tt)),
-      ((λ e. (refl, lit≤ tt)),
-      ((λ e. (refl, lit≤ tt)),
-      ((λ e. (refl, lit≤ tt)),
-      ((λ e. (refl, lit≤ tt)),
-      ((λ e. (refl, lit≤ tt)),
-      ((λ e. (refl, lit≤ tt)),
-      ((λ e. (refl, lit≤ tt)),
-      ((λ e. (refl, lit≤ tt)),
-      ((λ e. (refl, lit≤ tt)),
-      (own-rule,
-      (own-rule,
-      ((λ e. (refl, lit≤ tt)),
-      (own-rule,
-      (own-rule,
-      ((λ e. (refl, lit≤ tt)),
-      (own-rule,
-      (own-rule,
-      ((λ e. (refl, lit≤ tt)),
-      ((λ e. (refl, lit≤ tt)),
-      (own-rule,
-      (own-rule,
-      (own-rule,
-      (own-rule,
-      (own-rule,
-      (own-rule,
-      (own-rule,
-      ((λ e. (refl, lit≤ tt)),
-      ((λ e. (refl, lit≤ tt)),
-      ((λ e. (refl, lit≤ tt)),
-      ((λ e. (refl, lit≤ tt)),
-      ((λ e. (refl, lit≤ tt)),
-      ((λ e. (refl, lit≤ tt)),
-      ((λ e. (refl, lit≤ tt)),
-      ((λ e. (refl, lit≤ tt)),
-      ((λ e. (refl, lit≤ tt)),
-      ((λ e. (refl, lit≤ tt)),
-      ((λ e. (refl, lit≤ tt)),
-      ((λ e. (refl, lit≤ tt)),
-      ((λ e. (refl, lit≤ tt)),
-      ((λ e. (refl, lit≤ tt)),
-      ((λ e. (refl, lit≤ tt)),
-      ((λ e. (refl, lit≤ tt)),
-      ((λ e. (refl, lit≤ tt)),
-      ((λ e. (refl, lit≤ tt)),
-      ((λ e. (refl, lit≤ tt)),
-      ((λ e. (refl, lit≤ tt)),
-      ((λ e. (refl, lit≤ tt)),
-      ((λ e. (refl, lit≤ tt)),
-      tt)))))))))))))))))))))))))))))))))))))))))))))))))))))))))))))))))))))))))))
+  all-right = (
+    own-rule,
+    (
+      own-rule,
+      (
+        (λ e. (refl, lit≤ tt)),
+        (
+          (λ e. (refl, lit≤ tt)),
+          (
+            own-rule,
+            (
+              own-rule,
+              (
+                (λ e. (refl, lit≤ tt)),
+                (
+                  own-rule,
+                  (
+                    own-rule,
+                    (
+                      own-rule,
+                      (
+                        own-rule,
+                        (
+                          own-rule,
+                          (
+                            own-rule,
+                            (
+                              (λ e. (refl, lit≤ tt)),
+                              (
+                                (λ e. (refl, lit≤ tt)),
+                                (
+                                  (λ e. (refl, lit≤ tt)),
+                                  (
+                                    (λ e. (refl, lit≤ tt)),
+                                    (
+                                      (λ e. (refl, lit≤ tt)),
+                                      (
+                                        (λ e. (refl, lit≤ tt)),
+                                        (
+                                          (λ e. (refl, lit≤ tt)),
+                                          (
+                                            (λ e. (refl, lit≤ tt)),
+                                            (
+                                              (λ e. (refl, lit≤ tt)),
+                                              (
+                                                (λ e. (refl, lit≤ tt)),
+                                                (
+                                                  (λ e. (refl, lit≤ tt)),
+                                                  (
+                                                    (λ e. (refl, lit≤ tt)),
+                                                    (
+                                                      (λ e. (refl, lit≤ tt)),
+                                                      (
+                                                        (λ e. (refl, lit≤ tt)),
+                                                        (
+                                                          (λ e. (refl, lit≤ tt)),
+                                                          (
+                                                            (λ e. (refl, lit≤ tt)),
+                                                            (
+                                                              (λ e. (refl, lit≤ tt)),
+                                                              (
+                                                                (λ e. (refl, lit≤ tt)),
+                                                                (
+                                                                  (λ e. (refl, lit≤ tt)),
+                                                                  (
+                                                                    (λ e. (refl, lit≤ tt)),
+                                                                    (
+                                                                      (λ e. (refl, lit≤ tt)),
+                                                                      (
+                                                                        (λ e. (refl, lit≤ tt)),
+                                                                        (
+                                                                          (λ e. (refl, lit≤ tt)),
+                                                                          (
+                                                                            own-rule,
+                                                                            (
+                                                                              own-rule,
+                                                                              (
+                                                                                (λ e. (refl, lit≤ tt)),
+                                                                                (
+                                                                                  own-rule,
+                                                                                  (
+                                                                                    own-rule,
+                                                                                    (
+                                                                                      (λ e. (refl, lit≤ tt)),
+                                                                                      (
+                                                                                        own-rule,
+                                                                                        (
+                                                                                          own-rule,
+                                                                                          (
+                                                                                            (λ e. (refl, lit≤ tt)),
+                                                                                            (
+                                                                                              (λ e. (refl, lit≤ tt)),
+                                                                                              (
+                                                                                                own-rule,
+                                                                                                (
+                                                                                                  own-rule,
+                                                                                                  (
+                                                                                                    own-rule,
+                                                                                                    (
+                                                                                                      own-rule,
+                                                                                                      (
+                                                                                                        own-rule,
+                                                                                                        (
+                                                                                                          own-rule,
+                                                                                                          (
+                                                                                                            own-rule,
+                                                                                                            (
+                                                                                                              (λ e. (refl, lit≤ tt)),
+                                                                                                              (
+                                                                                                                (λ e. (refl, lit≤ tt)),
+                                                                                                                (
+                                                                                                                  (λ e. (refl, lit≤ tt)),
+                                                                                                                  (
+                                                                                                                    (λ e. (refl, lit≤ tt)),
+                                                                                                                    (
+                                                                                                                      (λ e. (refl, lit≤ tt)),
+                                                                                                                      (
+                                                                                                                        (λ e. (refl, lit≤ tt)),
+                                                                                                                        (
+                                                                                                                          (λ e. (refl, lit≤ tt)),
+                                                                                                                          (
+                                                                                                                            (λ e. (refl, lit≤ tt)),
+                                                                                                                            (
+                                                                                                                              (λ e. (refl, lit≤ tt)),
+                                                                                                                              (
+                                                                                                                                (λ e. (refl, lit≤ tt)),
+                                                                                                                                (
+                                                                                                                                  (λ e. (refl, lit≤ tt)),
+                                                                                                                                  (
+                                                                                                                                    (λ e. (refl, lit≤ tt)),
+                                                                                                                                    (
+                                                                                                                                      (λ e. (refl, lit≤ tt)),
+                                                                                                                                      (
+                                                                                                                                        (λ e. (refl, lit≤ tt)),
+                                                                                                                                        (
+                                                                                                                                          (λ e. (refl, lit≤ tt)),
+                                                                                                                                          (
+                                                                                                                                            (λ e. (refl, lit≤ tt)),
+                                                                                                                                            (
+                                                                                                                                              (λ e. (refl, lit≤ tt)),
+                                                                                                                                              (
+                                                                                                                                                (λ e. (refl, lit≤ tt)),
+                                                                                                                                                (
+                                                                                                                                                  (λ e. (refl, lit≤ tt)),
+                                                                                                                                                  (
+                                                                                                                                                    (λ e. (refl, lit≤ tt)),
+                                                                                                                                                    (
+                                                                                                                                                      (λ e. (refl, lit≤ tt)),
+                                                                                                                                                      (
+                                                                                                                                                        (λ e. (refl, lit≤ tt)),
+                                                                                                                                                        tt,
+                                                                                                                                                      ),
+                                                                                                                                                    ),
+                                                                                                                                                  ),
+                                                                                                                                                ),
+                                                                                                                                              ),
+                                                                                                                                            ),
+                                                                                                                                          ),
+                                                                                                                                        ),
+                                                                                                                                      ),
+                                                                                                                                    ),
+                                                                                                                                  ),
+                                                                                                                                ),
+                                                                                                                              ),
+                                                                                                                            ),
+                                                                                                                          ),
+                                                                                                                        ),
+                                                                                                                      ),
+                                                                                                                    ),
+                                                                                                                  ),
+                                                                                                                ),
+                                                                                                              ),
+                                                                                                            ),
+                                                                                                          ),
+                                                                                                        ),
+                                                                                                      ),
+                                                                                                    ),
+                                                                                                  ),
+                                                                                                ),
+                                                                                              ),
+                                                                                            ),
+                                                                                          ),
+                                                                                        ),
+                                                                                      ),
+                                                                                    ),
+                                                                                  ),
+                                                                                ),
+                                                                              ),
+                                                                            ),
+                                                                          ),
+                                                                        ),
+                                                                      ),
+                                                                    ),
+                                                                  ),
+                                                                ),
+                                                              ),
+                                                            ),
+                                                          ),
+                                                        ),
+                                                      ),
+                                                    ),
+                                                  ),
+                                                ),
+                                              ),
+                                            ),
+                                          ),
+                                        ),
+                                      ),
+                                    ),
+                                  ),
+                                ),
+                              ),
+                            ),
+                          ),
+                        ),
+                      ),
+                    ),
+                  ),
+                ),
+              ),
+            ),
+          ),
+        ),
+      ),
+    ),
+  )
 
   pub generic-code : is-member (i .code) shaped-codes ≡ false → i .code < 75 → (is-generic (instrOf i) ≡ true) × (length (pushes c (instrOf i) [] []) ≤ 3)
   unfolding instrOf
   generic-code e h = upto Right 0 75 all-right (i .code) (omega arith) (omega arith) e
 
+-- a code that no arm names
 module _ (k : ℕ) where
-  pub no-code : (k ≡ 0 → ⊥) → (k ≡ 1 → ⊥) → (k ≡ 4 → ⊥) → (k ≡ 5 → ⊥) → (k ≡ 7 → ⊥) → (k ≡ 8 → ⊥) → (k ≡ 9 → ⊥) → (k ≡ 10 → ⊥) → (k ≡ 11 → ⊥) → (k ≡ 12 → ⊥)
-      → (k ≡ 36 → ⊥) → (k ≡ 37 → ⊥) → (k ≡ 39 → ⊥) → (k ≡ 40 → ⊥) → (k ≡ 42 → ⊥) → (k ≡ 43 → ⊥) → (k ≡ 46 → ⊥) → (k ≡ 47 → ⊥) → (k ≡ 48 → ⊥) → (k ≡ 49 → ⊥)
-      → (k ≡ 50 → ⊥) → (k ≡ 51 → ⊥) → (k ≡ 52 → ⊥) → is-member k shaped-codes ≡ false
+  pub no-code : (k ≡ 5 → ⊥) → (k ≡ 0 → ⊥) → (k ≡ 1 → ⊥) → (k ≡ 4 → ⊥) → ((k ≡ 7) ⊎ (k ≡ 12) → ⊥) → (k ≡ 8 → ⊥) → (k ≡ 9 → ⊥) → (k ≡ 10 → ⊥) → (k ≡ 11 → ⊥)
+      → ((k ≡ 36) ⊎ ((k ≡ 39) ⊎ (k ≡ 42)) → ⊥) → ((k ≡ 37) ⊎ ((k ≡ 40) ⊎ (k ≡ 43)) → ⊥) → (k ≡ 46 → ⊥) → (k ≡ 47 → ⊥) → (k ≡ 48 → ⊥) → (k ≡ 49 → ⊥) → (k ≡ 50 → ⊥)
+      → (k ≡ 51 → ⊥) → (k ≡ 52 → ⊥) → is-member k shaped-codes ≡ false
   unfolding is-member
-  no-code n0 n1 n4 n5 n7 n8 n9 n10 n11 n12 n36 n37 n39 n40 n42 n43 n46 n47 n48 n49 n50 n51 n52 =
-      rw (ne-eqb k 0 n0, ne-eqb k 1 n1, ne-eqb k 4 n4, ne-eqb k 5 n5, ne-eqb k 7 n7, ne-eqb k 8 n8, ne-eqb k 9 n9, ne-eqb k 10 n10, ne-eqb k 11 n11, ne-eqb k 12 n12, ne-eqb k 36 n36, ne-eqb k 37 n37, ne-eqb k 39 n39, ne-eqb k 40 n40, ne-eqb k 42 n42, ne-eqb k 43 n43, ne-eqb k 46 n46, ne-eqb k 47 n47, ne-eqb k 48 n48, ne-eqb k 49 n49, ne-eqb k 50 n50, ne-eqb k 51 n51, ne-eqb k 52 n52)
+  no-code n5 n0 n1 n4 n7 n8 n9 n10 n11 n36 n37 n46 n47 n48 n49 n50 n51 n52 =
+      rw (ne-eqb k 0 n0, ne-eqb k 1 n1, ne-eqb k 4 n4, ne-eqb k 5 n5, ne-eqb k 7 (λ e. n7 (inl e)), ne-eqb k 8 n8, ne-eqb k 9 n9, ne-eqb k 10 n10, ne-eqb k 11 n11, ne-eqb k 12 (λ e. n7 (inr e)), ne-eqb k 36 (λ e. n36 (inl e)), ne-eqb k 37 (λ e. n37 (inl e)), ne-eqb k 39 (λ e. n36 (inr (inl e))), ne-eqb k 40 (λ e. n37 (inr (inl e))), ne-eqb k 42 (λ e. n36 (inr (inr e))), ne-eqb k 43 (λ e. n37 (inr (inr e))), ne-eqb k 46 n46, ne-eqb k 47 n47, ne-eqb k 48 n48, ne-eqb k 49 n49, ne-eqb k 50 n50, ne-eqb k 51 n51, ne-eqb k 52 n52)

@@ -4,3 +4,4 @@ pub mod Rules
 pub mod Calls
 pub mod Steps
 pub mod Codes
+pub mod Numbers

@@ -179,7 +179,7 @@ module _ (c : Chunk) (s : AnyState) where
   generic-moves (GetBoxed o n) e = record { reads = refl; tests = λ ip. refl; moves = record { keeps = refl; takes = refl; pushes = refl } }
   generic-moves (GetIndex z) e = absurd (subst T (sym e) tt)
 
-  generic-net : (i : Instr) → is-generic i ≡ true → net c i ≡ pos (length (pushes c i [] [])) -ℤ pos (need c i)
+  pub generic-net : (i : Instr) → is-generic i ≡ true → net c i ≡ pos (length (pushes c i [] [])) -ℤ pos (need c i)
   unfolding is-generic net takes need
   generic-net (plain p a) e = refl
   generic-net (shaped h) e = absurd (subst T (sym e) tt)
@@ -197,7 +197,7 @@ module _ (c : Chunk) (s : AnyState) where
       → Quiet c i s n x m 0
   quiet-generic i x n m z g e f h k =
       let q : m ≡ length (pushes c i [] []) =
-        cancel m (length (pushes c i [] [])) (need c i) (ap (λ (j : ℕ). pos m -ℤ pos j) (sym f) ∙ sym k ∙ h ∙ generic-net i g) in
+      cancel m (length (pushes c i [] [])) (need c i) (ap (λ (j : ℕ). pos m -ℤ pos j) (sym f) ∙ sym k ∙ h ∙ generic-net i g) in
       subst (λ (j : ℕ). Quiet c i s n x j 0) (sym q)
       (subst (λ (j : ℕ). Quiet c i s j x (length (pushes c i [] [])) 0) (sym f)
       (subst (λ (y : AnyShape). Quiet c i s (need c i) y (length (pushes c i [] [])) 0) (sym e) (generic-moves i g)))

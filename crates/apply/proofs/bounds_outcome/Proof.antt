@@ -1,18 +1,13 @@
 use Rattle.apply.proofs.Tests.{bounds-two, bounds-three, bounds-none}
 use Rattle.apply.proofs.bounds_outcome.Statement.{statement}
 use Rattle.apply.proofs.bounds_outcome.Tie as tie
-use Rattle.apply.proofs.bounds_outcome.Reads as reads
-use Rattle.apply.proofs.bounds_outcome.Lts as lts
 
--- src/lib.rt:486:9
 returns : tie.Need-returns
 returns c = bounds-two _ (c .if1 .taken)
 
--- src/lib.rt:482:1
 returns-2 : tie.Need-returns-2
 returns-2 c = bounds-three _ (c .before .if1 .left) (c .if2 .taken)
 
--- src/lib.rt:482:1
 returns-3 : tie.Need-returns-3
 returns-3 c = bounds-none _ (c .before .if1 .left) (c .if2 .left)
 

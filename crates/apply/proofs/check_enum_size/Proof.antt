@@ -1,5 +1,5 @@
-use mathlib.Core.Path.{_≡_, refl, sym, ap, ap₂, subst, _∙_}
-use Prim.Native.Nat.{ℕ, _+_, _-_, _*_, _≤_, _<_}
+use mathlib.Core.Path.{sym, ap, _∙_}
+use Prim.Native.Nat.{ℕ}
 use mathlib.Core.Option.{some}
 use mathlib.Core.List.{_∷_, []}
 use Rattle.definition.specs.Basics.{unless}
@@ -8,35 +8,24 @@ use Rattle.apply.proofs.Tests.{enum-free, enum-decides}
 use borrow.Author.Needs.{needs}
 use Rattle.apply.proofs.check_enum_size.Statement.{statement}
 use Rattle.apply.proofs.check_enum_size.Tie as tie
-use Rattle.apply.proofs.check_enum_size.Reads as reads
-use Rattle.apply.proofs.check_enum_size.Lts as lts
-use Rattle.apply.proofs.wide.Reads as wide-reads
-use Rattle.bytecode.proofs.count.Reads as count-reads
-use Rattle.bytecode.proofs.has_enum_size.Reads as has-enum-size-reads
 
--- src/lib.rt:541:8
 count-requires : tie.Need-count-requires
 count-requires c κs = search needs
 
--- src/lib.rt:542:9
 returns : tie.Need-returns
 unfolding refusal
 returns c = enum-free (c .before .before .before .args .t .now) _ _ _ (c .before .count .ensures) (c .if1 .taken)
 
--- src/lib.rt:544:8
 has-enum-size-requires : tie.Need-has-enum-size-requires
 has-enum-size-requires c κs = search needs
 
--- src/lib.rt:547:43
 wide-requires : tie.Need-wide-requires
 wide-requires c κs = search needs
 
--- src/lib.rt:538:1
 returns-2 : tie.Need-returns-2
 unfolding refusal unless
 returns-2 c = enum-decides (c .before .before .before .before .before .args .t .now) (c .before .before .before .before .before .args .ip) _ _ _ (c .before .before .before .count .ensures) (c .before .before .if1 .left) (sym (c .if2 .taken) ∙ c .before .has-enum-size .ensures)
 
--- src/lib.rt:538:1
 returns-3 : tie.Need-returns-3
 unfolding refusal unless
 returns-3 c = ap (λ (z : ℕ). some (17 ∷ (c .before .before .before .before .before .before .args .ip) ∷ z ∷ [])) (c .wide .ensures) ∙ enum-decides (c .before .before .before .before .before .before .args .t .now) (c .before .before .before .before .before .before .args .ip) _ _ _ (c .before .before .before .before .count .ensures) (c .before .before .before .if1 .left) (sym (c .before .if2 .left) ∙ c .before .before .has-enum-size .ensures)

@@ -3,36 +3,28 @@ use Rattle.apply.proofs.Tests.{flat-unknown, flat-scalar, flat-inside, 
 use borrow.Author.Needs.{needs}
 use Rattle.apply.proofs.check_flat.Statement.{statement}
 use Rattle.apply.proofs.check_flat.Tie as tie
-use Rattle.apply.proofs.check_flat.Reads as reads
-use Rattle.apply.proofs.check_flat.Lts as lts
 
--- src/lib.rt:283:29
 enum-known-shape : tie.Need-enum-known-shape
 enum-known-shape c = search needs
 
 enum-told : tie.Need-enum-told
 enum-told c = search needs
 
--- src/lib.rt:285:13
 returns : tie.Need-returns
 unfolding refusal
 returns c = flat-unknown _ _ _ _ _ (c .before .match .keys2) (c .match2 .keys2)
 
--- src/lib.rt:290:9
 returns-2 : tie.Need-returns-2
 unfolding refusal
 returns-2 c = flat-scalar _ _ _ _ _ _ (c .enum-told .given .1)
 
--- src/lib.rt:295:13
 cast-n : tie.Need-cast-n
 cast-n c = search needs
 
--- src/lib.rt:279:1
 returns-3 : tie.Need-returns-3
 unfolding refusal
 returns-3 c = flat-inside _ _ _ _ _ _ _ (c .before .before .shape .given .1) (c .if1 .taken)
 
--- src/lib.rt:279:1
 returns-4 : tie.Need-returns-4
 unfolding refusal
 returns-4 c = flat-outside _ _ _ _ _ _ _ (c .before .before .shape .given .1) (c .if1 .left)

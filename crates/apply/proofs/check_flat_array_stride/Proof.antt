@@ -1,4 +1,4 @@
-use mathlib.Core.Path.{_≡_, ap₂, _∙_}
+use mathlib.Core.Path.{ap₂, _∙_}
 use mathlib.Core.Option.{some}
 use mathlib.Core.List.{_∷_, []}
 use Prim.Native.Nat.{ℕ}
@@ -7,50 +7,38 @@ use Rattle.apply.proofs.Tests.{index-unknown, index-scalar, index-wide0
 use borrow.Author.Needs.{needs}
 use Rattle.apply.proofs.check_flat_array_stride.Statement.{statement}
 use Rattle.apply.proofs.check_flat_array_stride.Tie as tie
-use Rattle.apply.proofs.check_flat_array_stride.Reads as reads
-use Rattle.apply.proofs.check_flat_array_stride.Lts as lts
-use Rattle.apply.proofs.wide.Reads as wide-reads
 
--- src/lib.rt:411:29
 enum-known-shape : tie.Need-enum-known-shape
 enum-known-shape c = search needs
 
 enum-told : tie.Need-enum-told
 enum-told c = search needs
 
--- src/lib.rt:413:13
 returns : tie.Need-returns
 unfolding refusal
 returns c = index-unknown _ _ _ _ (c .before .match .keys2) (c .match2 .keys2)
 
--- src/lib.rt:418:9
 returns-2 : tie.Need-returns-2
 unfolding refusal
 returns-2 c = index-scalar _ _ _ _ _ (c .enum-told .given .1)
 
--- src/lib.rt:424:9
 returns-3 : tie.Need-returns-3
 unfolding refusal
 returns-3 c = index-wide0 _ _ _ _ _ _ (c .before .before .shape .given .1) (c .if1 .taken)
 
--- src/lib.rt:429:8
 rem-if2 : tie.Need-rem-if2
 rem-if2 c = search needs
 
--- src/lib.rt:436:55
 wide-requires : tie.Need-wide-requires
 wide-requires c κs = search needs
 
--- src/lib.rt:436:70
 wide-requires-2 : tie.Need-wide-requires-2
 wide-requires-2 c κs = search needs
 
--- src/lib.rt:407:1
 returns-4 : tie.Need-returns-4
 unfolding refusal
 returns-4 c = index-even _ _ _ _ _ _ (c .before .before .before .shape .given .1) (c .before .if1 .left) (c .if2 .taken)
 
--- src/lib.rt:407:1
 returns-5 : tie.Need-returns-5
 unfolding refusal
 returns-5 c =

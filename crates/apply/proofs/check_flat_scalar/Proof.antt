@@ -1,38 +1,27 @@
-use mathlib.Core.Path.{_≡_, refl, sym, ap, ap₂, subst, _∙_}
-use Prim.Native.Nat.{ℕ, _+_, _-_, _*_, _≤_, _<_}
+use mathlib.Core.Path.{ap₂, _∙_}
+use Prim.Native.Nat.{ℕ, _+_}
 use Rattle.definition.specs.Tests.{field-test}
 use Rattle.shapes.specs.Model.{valueOf}
 use Rattle.value_layout.proofs.Laws.{width-is}
 use borrow.Author.Needs.{needs}
 use Rattle.apply.proofs.check_flat_scalar.Statement.{statement}
 use Rattle.apply.proofs.check_flat_scalar.Tie as tie
-use Rattle.apply.proofs.check_flat_scalar.Reads as reads
-use Rattle.apply.proofs.check_flat_scalar.Lts as lts
-use Rattle.apply.proofs.check_flat.Reads as check-flat-reads
-use Rattle.apply.proofs.wide.Reads as wide-reads
-use Rattle.value_layout.proofs.Widths.size_in_bytes.Reads as size-in-bytes-reads
 
--- src/lib.rt:312:9
 wide-requires : tie.Need-wide-requires
 wide-requires c κs = search needs
 
--- src/lib.rt:313:25
 size-in-bytes-requires : tie.Need-size-in-bytes-requires
 size-in-bytes-requires c κs = search needs
 
--- src/lib.rt:313:20
 wide-requires-2 : tie.Need-wide-requires-2
 wide-requires-2 c κs = search needs
 
--- src/lib.rt:313:15
 add-end : tie.Need-add-end
 add-end c = search needs
 
--- src/lib.rt:314:5
 check-flat-requires : tie.Need-check-flat-requires
 check-flat-requires c κs = search needs
 
--- src/lib.rt:309:1
 returns : tie.Need-returns
 returns c =
     λ d h. let a = c .before .before .before .before .args in

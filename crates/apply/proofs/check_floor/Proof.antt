@@ -3,24 +3,18 @@ use Rattle.apply.proofs.Tests.{floor-breach, floor-none, floor-kept}
 use borrow.Author.Needs.{needs}
 use Rattle.apply.proofs.check_floor.Statement.{statement}
 use Rattle.apply.proofs.check_floor.Tie as tie
-use Rattle.apply.proofs.check_floor.Reads as reads
-use Rattle.apply.proofs.check_floor.Lts as lts
 
--- src/lib.rt:785:9
 returns : tie.Need-returns
 unfolding refusal
 returns c = floor-none _ _ _ _ (c .if1 .taken)
 
--- src/lib.rt:787:17
 add-if2 : tie.Need-add-if2
 add-if2 c = search needs
 
--- src/lib.rt:788:9
 returns-2 : tie.Need-returns-2
 unfolding refusal
 returns-2 c = floor-breach _ _ _ _ (c .before .if1 .left) (c .if2 .taken)
 
--- src/lib.rt:780:1
 returns-3 : tie.Need-returns-3
 unfolding refusal
 returns-3 c = floor-kept _ _ _ _ (c .before .if1 .left) (c .if2 .left)

@@ -1,6 +1,4 @@
-use mathlib.Core.Path.{_≡_, refl, sym, ap, ap₂, subst, _∙_}
-use Prim.Native.Nat.{ℕ, _+_, _-_, _*_, _/_, _≤_, _<_}
-use lib.ListN.{length, getD, take, drop}
+use mathlib.Core.Path.{_∙_}
 use Rattle.shapes.specs.Model.{placesOf}
 use Rattle.shapes.proofs.Text.{part-fits}
 use Rattle.apply.specs.Answers.{refusal}
@@ -8,43 +6,32 @@ use Rattle.apply.proofs.Tests.{elements-not, elements-empty, elements-o
 use borrow.Author.Needs.{needs}
 use Rattle.apply.proofs.check_text_elements.Statement.{statement}
 use Rattle.apply.proofs.check_text_elements.Tie as tie
-use Rattle.apply.proofs.check_text_elements.Reads as reads
-use Rattle.apply.proofs.check_text_elements.Lts as lts
-use Rattle.apply.proofs.text_elements.Reads as text-elements-reads
 
--- src/lib.rt:464:9
 returns : tie.Need-returns
 unfolding refusal
 returns c = elements-not _ (c .before .args .element) _ (c .if1 .taken)
 
--- src/lib.rt:467:9
 returns-2 : tie.Need-returns-2
 unfolding refusal
 returns-2 c = elements-empty _ (c .before .before .args .element) _ (c .before .if1 .left) (c .if2 .taken)
 
--- src/lib.rt:470:29
 enum-known-shape : tie.Need-enum-known-shape
 enum-known-shape c = search needs
 
--- src/lib.rt:471:9
 returns-3 : tie.Need-returns-3
 unfolding refusal
 returns-3 c = elements-other (c .before .before .before .args .kind) (c .before .before .before .args .element) (c .before .before .before .args .v .shape) (placesOf (c .before .before .before .args .v .known) (c .before .before .before .args .v .places)) (c .before .before .before .args .ip) (c .match .keys2)
 
--- src/lib.rt:475:9
 returns-4 : tie.Need-returns-4
 unfolding refusal
 returns-4 c = elements-open _ _ (c .before .before .before .before .before .if1 .left) (c .before .before .before .before .if2 .left) _ _ _ _ _ _ (c .before .before .shape .given .1) (c .if3 .taken)
 
--- src/lib.rt:478:32
 div-text-elements : tie.Need-div-text-elements
 div-text-elements c = search needs
 
--- src/lib.rt:478:5
 text-elements-requires : tie.Need-text-elements-requires
 text-elements-requires c κs = (search needs, part-fits _ _ (search needs))
 
--- src/lib.rt:460:1
 returns-5 : tie.Need-returns-5
 returns-5 c = c .text-elements .ensures ∙ elements-known _ _ (c .before .before .before .before .before .before .before .if1 .left) (c .before .before .before .before .before .before .if2 .left) _ _ _ _ _ _ (c .before .before .before .before .shape .given .1) (c .before .before .if3 .left)
 

@@ -1,6 +1,5 @@
-use mathlib.Core.Path.{_≡_, refl, sym, ap, ap₂, subst, _∙_}
-use Prim.Native.Nat.{ℕ, _+_, _-_, _*_, _/_, _≤_, _<_}
-use lib.ListN.{length, getD, take, drop}
+use mathlib.Core.Path.{sym, ap, _∙_}
+use Prim.Native.Nat.{ℕ}
 use mathlib.Core.Option.{some}
 use mathlib.Core.List.{_∷_, []}
 use Rattle.shapes.specs.Model.{placesOf}
@@ -9,12 +8,7 @@ use Rattle.apply.proofs.Tests.{text-not, text-other, text-open, text-th
 use borrow.Author.Needs.{needs}
 use Rattle.apply.proofs.check_text_field.Statement.{statement}
 use Rattle.apply.proofs.check_text_field.Tie as tie
-use Rattle.apply.proofs.check_text_field.Reads as reads
-use Rattle.apply.proofs.check_text_field.Lts as lts
-use Rattle.apply.proofs.wide.Reads as wide-reads
-use Rattle.shapes.proofs.contains.Reads as contains-reads
 
--- src/lib.rt:330:9
 returns : tie.Need-returns
 unfolding refusal
 returns c = text-not _ _ (c .if1 .taken)
@@ -22,30 +16,24 @@ returns c = text-not _ _ (c .if1 .taken)
 enum-told : tie.Need-enum-told
 enum-told c = search needs
 
--- src/lib.rt:334:9
 returns-2 : tie.Need-returns-2
 unfolding refusal
 returns-2 c = text-other (c .before .before .args .kind) (c .before .before .args .v .shape) (placesOf (c .before .before .args .v .known) (c .before .before .args .v .places)) (c .before .before .args .ip) (c .before .before .args .offset) (c .match .keys2)
 
--- src/lib.rt:338:9
 returns-3 : tie.Need-returns-3
 unfolding refusal
 returns-3 c = text-open _ (c .before .before .before .if1 .left) _ _ _ _ _ _ _ (c .before .enum-told .given .1) (c .if2 .taken)
 
--- src/lib.rt:341:8
 contains-requires : tie.Need-contains-requires
 contains-requires c κs = search needs
 
--- src/lib.rt:344:40
 wide-requires : tie.Need-wide-requires
 wide-requires c κs = search needs
 
--- src/lib.rt:326:1
 returns-4 : tie.Need-returns-4
 unfolding refusal
 returns-4 c = text-there _ (c .before .before .before .before .before .before .if1 .left) _ _ _ _ _ _ _ (c .before .before .before .before .enum-told .given .1) (c .before .before .before .if2 .left) (sym (c .if3 .taken) ∙ c .before .contains .ensures)
 
--- src/lib.rt:326:1
 returns-5 : tie.Need-returns-5
 unfolding refusal
 returns-5 c = ap (λ (z : ℕ). some (9 ∷ (c .before .before .before .before .before .before .before .before .args .ip) ∷ z ∷ [])) (c .wide .ensures) ∙ text-missing _ (c .before .before .before .before .before .before .before .if1 .left) _ _ _ _ _ _ _ (c .before .before .before .before .before .enum-told .given .1) (c .before .before .before .before .if2 .left) (sym (c .before .if3 .left) ∙ c .before .before .contains .ensures)

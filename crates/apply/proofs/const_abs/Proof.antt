@@ -3,40 +3,28 @@ use Rattle.apply.proofs.Tests.{const-missing, const-kind, const-other}
 use borrow.Author.Needs.{needs}
 use Rattle.apply.proofs.const_abs.Statement.{statement}
 use Rattle.apply.proofs.const_abs.Tie as tie
-use Rattle.apply.proofs.const_abs.Reads as reads
-use Rattle.apply.proofs.const_abs.Lts as lts
-use Rattle.shapes.proofs.scalar_value.Reads as scalar-value-reads
-use Rattle.shapes.proofs.unknown_value.Reads as unknown-value-reads
 
--- src/lib.rt:164:24
 enum-known-c : tie.Need-enum-known-c
 enum-known-c c = search needs
 
--- src/lib.rt:165:9
 enum-told : tie.Need-enum-told
 enum-told c = search needs
 
--- src/lib.rt:165:9
 unknown-value-requires : tie.Need-unknown-value-requires
 unknown-value-requires c κs = search needs
 
--- src/lib.rt:165:9
 returns : tie.Need-returns
 returns c = c .unknown-value .ensures ∙ const-missing _ (c .before .enum-told .given .1)
 
--- src/lib.rt:168:9
 scalar-value-requires : tie.Need-scalar-value-requires
 scalar-value-requires c κs = search needs
 
--- src/lib.rt:170:9
 unknown-value-requires-2 : tie.Need-unknown-value-requires-2
 unknown-value-requires-2 c κs = search needs
 
--- src/lib.rt:161:1
 returns-2 : tie.Need-returns-2
 returns-2 c = c .scalar-value .ensures ∙ const-kind _ _ (c .before .before .before .c .given .1) (c .before .if1 .taken)
 
--- src/lib.rt:161:1
 returns-3 : tie.Need-returns-3
 returns-3 c = c .unknown-value2 .ensures ∙ const-other _ _ (c .before .before .before .c .given .1) (c .before .if1 .left)
 

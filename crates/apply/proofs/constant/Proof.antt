@@ -1,5 +1,5 @@
-use mathlib.Core.Path.{_≡_, refl, sym, ap, ap₂, subst, _∙_}
-use Prim.Native.Nat.{ℕ, _+_, _-_, _*_, _≤_, _<_}
+use mathlib.Core.Path.{ap, _∙_}
+use Prim.Native.Nat.{ℕ}
 use lib.ListN.{getElem?}
 use Rattle.definition.specs.Instructions.{shaped, Const}
 use Rattle.definition.specs.Effects.{const-shape}
@@ -8,30 +8,19 @@ use Rattle.apply.proofs.Rules.{quiet, quiet-const}
 use borrow.Author.Needs.{needs}
 use Rattle.apply.proofs.constant.Statement.{statement}
 use Rattle.apply.proofs.constant.Tie as tie
-use Rattle.apply.proofs.constant.Reads as reads
-use Rattle.apply.proofs.constant.Lts as lts
-use Rattle.apply.proofs.const_abs.Reads as const-abs-reads
-use Rattle.apply.proofs.index.Reads as index-reads
-use Rattle.apply.proofs.passing.Reads as passing-reads
-use Rattle.bytecode.proofs.constant_at.Reads as constant-at-reads
 
--- src/lib.rt:180:45
 index-requires : tie.Need-index-requires
 index-requires c κs = search needs
 
--- src/lib.rt:180:9
 constant-at-requires : tie.Need-constant-at-requires
 constant-at-requires c κs = search needs
 
--- src/lib.rt:181:9
 const-abs-requires : tie.Need-const-abs-requires
 const-abs-requires c κs = search needs
 
--- src/lib.rt:182:5
 passing-requires : tie.Need-passing-requires
 passing-requires c κs = search needs
 
--- src/lib.rt:176:1
 returns : tie.Need-returns
 returns c =
     λ ip s. let d = chunkOf (c .before .before .before .before .before .args .t .now) (c .before .before .before .before .before .args .chunk) in

@@ -3,32 +3,24 @@ use Rattle.apply.proofs.Tests.{wire-unknown, wire-scalar, wire-composit
 use borrow.Author.Needs.{needs}
 use Rattle.apply.proofs.from_wire.Statement.{statement}
 use Rattle.apply.proofs.from_wire.Tie as tie
-use Rattle.apply.proofs.from_wire.Reads as reads
-use Rattle.apply.proofs.from_wire.Lts as lts
 
--- src/lib.rt:147:31
 enum-told : tie.Need-enum-told
 enum-told c = search needs
 
--- src/lib.rt:148:27
 enum-known-w : tie.Need-enum-known-w
 enum-known-w c = search needs
 
--- src/lib.rt:149:30
 enum-known-w-2 : tie.Need-enum-known-w-2
 enum-known-w-2 c = search needs
 
--- src/lib.rt:143:1
 returns : tie.Need-returns
 unfolding shapeOf
 returns c = wire-unknown _ (c .enum-told .given .1)
 
--- src/lib.rt:143:1
 returns-2 : tie.Need-returns-2
 unfolding shapeOf
 returns-2 c = wire-scalar _ _ (c .before .w .given .1)
 
--- src/lib.rt:143:1
 returns-3 : tie.Need-returns-3
 returns-3 c = wire-composite _ _ _ (c .before .w2 .given .1)
 

@@ -1,34 +1,23 @@
-use mathlib.Core.Path.{_≡_, refl, sym, ap, ap₂, subst, _∙_}
-use Prim.Native.Nat.{ℕ, _+_, _-_, _*_, _≤_, _<_}
+use mathlib.Core.Path.{sym, ap, _∙_}
+use Prim.Native.Nat.{ℕ}
 use lib.IntN.{pos, _-ℤ_}
 use Rattle.apply.proofs.Rules.{quiet, quiet-generic}
 use borrow.Author.Needs.{needs}
 use Rattle.apply.proofs.generic.Statement.{statement}
 use Rattle.apply.proofs.generic.Tie as tie
-use Rattle.apply.proofs.generic.Reads as reads
-use Rattle.apply.proofs.generic.Lts as lts
-use Rattle.apply.proofs.index.Reads as index-reads
-use Rattle.apply.proofs.passing.Reads as passing-reads
-use Rattle.apply.proofs.produced.Reads as produced-reads
-use Rattle.shapes.proofs.unknown_value.Reads as unknown-value-reads
 
--- src/lib.rt:265:9
 unknown-value-requires : tie.Need-unknown-value-requires
 unknown-value-requires c κs = search needs
 
--- src/lib.rt:266:9
 produced-requires : tie.Need-produced-requires
 produced-requires c κs = search needs
 
--- src/lib.rt:267:13
 index-requires : tie.Need-index-requires
 index-requires c κs = search needs
 
--- src/lib.rt:267:5
 passing-requires : tie.Need-passing-requires
 passing-requires c κs = search needs
 
--- src/lib.rt:261:1
 returns : tie.Need-returns
 returns c =
     λ d ip i s g n z. let a = c .before .before .before .before .args in

@@ -1,45 +1,30 @@
-use mathlib.Core.Path.{_≡_, refl, sym, ap, ap₂, subst, _∙_}
-use Prim.Native.Nat.{ℕ, _+_, _-_, _*_, _≤_, _<_}
+use mathlib.Core.Path.{sym, _∙_}
 use Rattle.shapes.specs.Model.{valueOf}
 use Rattle.apply.proofs.Rules.{flat-tested, flat-refused}
 use borrow.Author.Needs.{needs}
 use Rattle.apply.proofs.get_flat.Statement.{statement}
 use Rattle.apply.proofs.get_flat.Tie as tie
-use Rattle.apply.proofs.get_flat.Reads as reads
-use Rattle.apply.proofs.get_flat.Lts as lts
-use Rattle.apply.proofs.Verdict.passed.Reads as passed-reads
-use Rattle.apply.proofs.check_flat_scalar.Reads as check-flat-scalar-reads
-use Rattle.apply.proofs.check_text_field.Reads as check-text-field-reads
-use Rattle.apply.proofs.refusing.Reads as refusing-reads
-use Rattle.shapes.proofs.scalar_value.Reads as scalar-value-reads
 
--- src/lib.rt:366:9
 check-flat-scalar-requires : tie.Need-check-flat-scalar-requires
 check-flat-scalar-requires c κs = search needs
 
--- src/lib.rt:368:8
 passed-requires : tie.Need-passed-requires
 passed-requires c κs = search needs
 
--- src/lib.rt:369:13
 check-text-field-requires : tie.Need-check-text-field-requires
 check-text-field-requires c κs = search needs
 
--- src/lib.rt:370:13
 scalar-value-requires : tie.Need-scalar-value-requires
 scalar-value-requires c κs = search needs
 
--- src/lib.rt:371:9
 returns : tie.Need-returns
 returns c =
     λ d o s h top. let a = c .before .before .before .before .before .args in
     flat-tested d o (a .ip) (a .offset) (a .kind) s (valueOf (a .v)) top (c .before .before .before .before .check-flat-scalar .result .verdict) _ _ _ (c .before .before .before .before .check-flat-scalar .ensures d h .0) (sym (c .before .before .before .passed .ensures) ∙ c .before .before .if1 .taken) (c .before .check-text-field .ensures) (c .before .before .before .before .check-flat-scalar .ensures d h .1) (c .scalar-value .ensures)
 
--- src/lib.rt:380:5
 refusing-requires : tie.Need-refusing-requires
 refusing-requires c κs = search needs
 
--- src/lib.rt:363:1
 returns-2 : tie.Need-returns-2
 returns-2 c =
     λ d o s h top. let a = c .before .before .before .before .args in

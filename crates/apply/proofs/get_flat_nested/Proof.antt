@@ -1,45 +1,30 @@
-use mathlib.Core.Path.{_≡_, refl, sym, ap, ap₂, subst, _∙_}
-use Prim.Native.Nat.{ℕ, _+_, _-_, _*_, _≤_, _<_}
+use mathlib.Core.Path.{sym, _∙_}
 use Rattle.shapes.specs.Model.{valueOf}
 use Rattle.apply.proofs.Rules.{nested-passed, nested-refused}
 use borrow.Author.Needs.{needs}
 use Rattle.apply.proofs.get_flat_nested.Statement.{statement}
 use Rattle.apply.proofs.get_flat_nested.Tie as tie
-use Rattle.apply.proofs.get_flat_nested.Reads as reads
-use Rattle.apply.proofs.get_flat_nested.Lts as lts
-use Rattle.apply.proofs.Verdict.passed.Reads as passed-reads
-use Rattle.apply.proofs.check_flat_nested.Reads as check-flat-nested-reads
-use Rattle.apply.proofs.refusing.Reads as refusing-reads
-use Rattle.shapes.proofs.Value.nested_text_layout.Reads as nested-text-layout-reads
-use Rattle.shapes.proofs.composite_value.Reads as composite-value-reads
 
--- src/lib.rt:387:9
 check-flat-nested-requires : tie.Need-check-flat-nested-requires
 check-flat-nested-requires c κs = search needs
 
--- src/lib.rt:389:8
 passed-requires : tie.Need-passed-requires
 passed-requires c κs = search needs
 
--- src/lib.rt:390:13
 nested-text-layout-requires : tie.Need-nested-text-layout-requires
 nested-text-layout-requires c κs = search needs
 
--- src/lib.rt:391:13
 composite-value-requires : tie.Need-composite-value-requires
 composite-value-requires c κs = search needs
 
--- src/lib.rt:392:9
 returns : tie.Need-returns
 returns c =
     λ d o s top. let a = c .before .before .before .before .before .args in
     nested-passed d o (a .ip) (a .offset) (a .size) (a .kind) s (valueOf (a .v)) top (c .before .before .before .before .check-flat-nested .result .verdict) _ _ _ (c .before .before .before .before .check-flat-nested .ensures .0) (sym (c .before .before .before .passed .ensures) ∙ c .before .before .if1 .taken) (c .before .before .before .before .check-flat-nested .ensures .1) (c .composite-value .ensures) (c .before .nested-text-layout .ensures)
 
--- src/lib.rt:401:5
 refusing-requires : tie.Need-refusing-requires
 refusing-requires c κs = search needs
 
--- src/lib.rt:384:1
 returns-2 : tie.Need-returns-2
 returns-2 c =
     λ d o s top. let a = c .before .before .before .before .args in

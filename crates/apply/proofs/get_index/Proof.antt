@@ -1,5 +1,5 @@
-use mathlib.Core.Path.{_≡_, refl, sym, ap, ap₂, subst, _∙_}
-use Prim.Native.Nat.{ℕ, _+_, _-_, _*_, _≤_, _<_}
+use mathlib.Core.Path.{sym, ap, _∙_}
+use Prim.Native.Nat.{ℕ}
 use mathlib.Core.Bool.{_&&_}
 use lib.Dec.{eqb, ltb}
 use Rattle.definition.specs.Tests.{index-test, test-if, text-index-test}
@@ -9,41 +9,25 @@ use Rattle.apply.proofs.Rules.{elem-tested, elem-refused}
 use borrow.Author.Needs.{needs}
 use Rattle.apply.proofs.get_index.Statement.{statement}
 use Rattle.apply.proofs.get_index.Tie as tie
-use Rattle.apply.proofs.get_index.Reads as reads
-use Rattle.apply.proofs.get_index.Lts as lts
-use Rattle.apply.proofs.Verdict.passed.Reads as passed-reads
-use Rattle.apply.proofs.bounds_outcome.Reads as bounds-outcome-reads
-use Rattle.apply.proofs.check_flat_array_stride.Reads as check-flat-array-stride-reads
-use Rattle.apply.proofs.check_text_elements.Reads as check-text-elements-reads
-use Rattle.apply.proofs.refusing.Reads as refusing-reads
-use Rattle.shapes.proofs.scalar_value.Reads as scalar-value-reads
-use Rattle.value_layout.proofs.Widths.size_in_bytes.Reads as size-in-bytes-reads
 
--- src/lib.rt:495:9
 size-in-bytes-requires : tie.Need-size-in-bytes-requires
 size-in-bytes-requires c κs = search needs
 
--- src/lib.rt:496:9
 check-flat-array-stride-requires : tie.Need-check-flat-array-stride-requires
 check-flat-array-stride-requires c κs = search needs
 
--- src/lib.rt:498:8
 passed-requires : tie.Need-passed-requires
 passed-requires c κs = search needs
 
--- src/lib.rt:499:13
 check-text-elements-requires : tie.Need-check-text-elements-requires
 check-text-elements-requires c κs = search needs
 
--- src/lib.rt:500:13
 scalar-value-requires : tie.Need-scalar-value-requires
 scalar-value-requires c κs = search needs
 
--- src/lib.rt:501:13
 bounds-outcome-requires : tie.Need-bounds-outcome-requires
 bounds-outcome-requires c κs = search needs
 
--- src/lib.rt:502:9
 returns : tie.Need-returns
 returns c =
     λ d s h array. let a = c .before .before .before .before .before .before .before .args in
@@ -53,11 +37,9 @@ returns c =
     (c .before .before .check-text-elements .ensures ∙ ap (λ (n : ℕ). test-if (eqb (a .kind) 6 && ltb 0 n) (text-index-test (a .ip) n (valueOf (a .v)))) e)
     (c .before .before .before .before .before .check-flat-array-stride .ensures .1) (c .before .scalar-value .ensures) (c .bounds-outcome .ensures)
 
--- src/lib.rt:511:5
 refusing-requires : tie.Need-refusing-requires
 refusing-requires c κs = search needs
 
--- src/lib.rt:492:1
 returns-2 : tie.Need-returns-2
 returns-2 c =
     λ d s h array. let a = c .before .before .before .before .before .args in

@@ -1,45 +1,30 @@
-use mathlib.Core.Path.{_≡_, refl, sym, ap, ap₂, subst, _∙_}
-use Prim.Native.Nat.{ℕ, _+_, _-_, _*_, _≤_, _<_}
+use mathlib.Core.Path.{sym, _∙_}
 use Rattle.shapes.specs.Model.{valueOf}
 use Rattle.apply.proofs.Rules.{part-passed, part-refused}
 use borrow.Author.Needs.{needs}
 use Rattle.apply.proofs.get_index_nested.Statement.{statement}
 use Rattle.apply.proofs.get_index_nested.Tie as tie
-use Rattle.apply.proofs.get_index_nested.Reads as reads
-use Rattle.apply.proofs.get_index_nested.Lts as lts
-use Rattle.apply.proofs.Verdict.passed.Reads as passed-reads
-use Rattle.apply.proofs.check_flat_array_stride.Reads as check-flat-array-stride-reads
-use Rattle.apply.proofs.refusing.Reads as refusing-reads
-use Rattle.shapes.proofs.Value.element_text_layout.Reads as element-text-layout-reads
-use Rattle.shapes.proofs.composite_value.Reads as composite-value-reads
 
--- src/lib.rt:518:9
 check-flat-array-stride-requires : tie.Need-check-flat-array-stride-requires
 check-flat-array-stride-requires c κs = search needs
 
--- src/lib.rt:520:8
 passed-requires : tie.Need-passed-requires
 passed-requires c κs = search needs
 
--- src/lib.rt:521:13
 element-text-layout-requires : tie.Need-element-text-layout-requires
 element-text-layout-requires c κs = search needs
 
--- src/lib.rt:522:13
 composite-value-requires : tie.Need-composite-value-requires
 composite-value-requires c κs = search needs
 
--- src/lib.rt:523:9
 returns : tie.Need-returns
 returns c =
     λ d s array. let a = c .before .before .before .before .before .args in
     part-passed d (a .ip) (a .size) (a .kind) s (valueOf (a .v)) array (c .before .before .before .before .check-flat-array-stride .result .verdict) _ _ _ (c .before .before .before .before .check-flat-array-stride .ensures .0) (sym (c .before .before .before .passed .ensures) ∙ c .before .before .if1 .taken) (c .before .before .before .before .check-flat-array-stride .ensures .1) (c .composite-value .ensures) (c .before .element-text-layout .ensures)
 
--- src/lib.rt:532:5
 refusing-requires : tie.Need-refusing-requires
 refusing-requires c κs = search needs
 
--- src/lib.rt:515:1
 returns-2 : tie.Need-returns-2
 returns-2 c =
     λ d s array. let a = c .before .before .before .before .args in

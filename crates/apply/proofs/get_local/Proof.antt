@@ -1,5 +1,5 @@
-use mathlib.Core.Path.{_≡_, refl, sym, ap, ap₂, subst, _∙_}
-use Prim.Native.Nat.{ℕ, _+_, _-_, _*_, _≤_, _<_}
+use mathlib.Core.Path.{ap, _∙_}
+use Prim.Native.Nat.{ℕ}
 use lib.ListN.{getD}
 use Rattle.definition.specs.Shapes.{unknown}
 use Rattle.definition.specs.Instructions.{shaped, GetLocal}
@@ -8,25 +8,16 @@ use Rattle.apply.proofs.Rules.{quiet, quiet-local}
 use borrow.Author.Needs.{needs}
 use Rattle.apply.proofs.get_local.Statement.{statement}
 use Rattle.apply.proofs.get_local.Tie as tie
-use Rattle.apply.proofs.get_local.Reads as reads
-use Rattle.apply.proofs.get_local.Lts as lts
-use Rattle.apply.proofs.index.Reads as index-reads
-use Rattle.apply.proofs.passing.Reads as passing-reads
-use Rattle.shapes.proofs.State.get_local.Reads as get-local-reads
 
--- src/lib.rt:189:25
 index-requires : tie.Need-index-requires
 index-requires c κs = search needs
 
--- src/lib.rt:189:9
 get-local-requires : tie.Need-get-local-requires
 get-local-requires c κs = search needs
 
--- src/lib.rt:190:5
 passing-requires : tie.Need-passing-requires
 passing-requires c κs = search needs
 
--- src/lib.rt:185:1
 returns : tie.Need-returns
 returns c =
     λ d ip. let a = c .before .before .before .args in

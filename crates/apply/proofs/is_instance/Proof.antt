@@ -3,20 +3,13 @@ use Rattle.apply.proofs.Rules.{quiet, quiet-enum, quiet-struct}
 use borrow.Author.Needs.{needs}
 use Rattle.apply.proofs.is_instance.Statement.{statement}
 use Rattle.apply.proofs.is_instance.Tie as tie
-use Rattle.apply.proofs.is_instance.Reads as reads
-use Rattle.apply.proofs.is_instance.Lts as lts
-use Rattle.apply.proofs.passing.Reads as passing-reads
-use Rattle.shapes.proofs.scalar_value.Reads as scalar-value-reads
 
--- src/lib.rt:227:9
 scalar-value-requires : tie.Need-scalar-value-requires
 scalar-value-requires c κs = search needs
 
--- src/lib.rt:228:5
 passing-requires : tie.Need-passing-requires
 passing-requires c κs = search needs
 
--- src/lib.rt:224:1
 returns : tie.Need-returns
 returns c =
     λ d ip s. (

@@ -1,5 +1,5 @@
-use mathlib.Core.Path.{_≡_, refl, sym, ap, ap₂, subst, _∙_}
-use Prim.Native.Nat.{ℕ, _+_, _-_, _*_, _≤_, _<_}
+use mathlib.Core.Path.{refl, sym, ap, ap₂, _∙_}
+use Prim.Native.Nat.{ℕ}
 use mathlib.Core.Bool.{true, false}
 use mathlib.Core.List.{List}
 use lib.ListN.{getElem?}
@@ -8,58 +8,43 @@ use Rattle.definition.specs.Basics.{choose}
 use Rattle.definition.specs.Shapes.{Wire}
 use Rattle.definition.specs.Instructions.{shaped, Native}
 use Rattle.definition.specs.Effects.{shape-of, returned-native}
-use Rattle.bytecode.specs.Meaning.{nativesOf}
-use Rattle.apply.specs.Rules.{Rules, Quiet, passingOf}
+use Rattle.apply.specs.Rules.{passingOf}
 use Rattle.apply.proofs.Rules.{quiet, quiet-native}
 use borrow.Author.Needs.{needs}
 use Rattle.apply.proofs.native.Statement.{statement}
 use Rattle.apply.proofs.native.Tie as tie
-use Rattle.apply.proofs.native.Reads as reads
-use Rattle.apply.proofs.native.Lts as lts
-use Rattle.apply.proofs.index.Reads as index-reads
-use Rattle.apply.proofs.passing.Reads as passing-reads
-use Rattle.apply.proofs.wire_value.Reads as wire-value-reads
-use Rattle.bytecode.proofs.native_shape.Reads as native-shape-reads
 
--- src/lib.rt:243:50
 index-requires : tie.Need-index-requires
 index-requires c κs = search needs
 
--- src/lib.rt:243:24
 native-shape-requires : tie.Need-native-shape-requires
 native-shape-requires c κs = search needs
 
--- src/lib.rt:243:9
 wire-value-requires : tie.Need-wire-value-requires
 wire-value-requires c κs = search needs
 
--- src/lib.rt:244:9
 index-requires-2 : tie.Need-index-requires-2
 index-requires-2 c κs = search needs
 
--- src/lib.rt:246:9
 passing-requires : tie.Need-passing-requires
 passing-requires c κs = search needs
 
--- src/lib.rt:248:9
 passing-requires-2 : tie.Need-passing-requires-2
 passing-requires-2 c κs = search needs
 
--- src/lib.rt:240:1
 returns : tie.Need-returns
 unfolding choose
 returns c =
     λ d ip s e. let a = c .before .before .before .before .before .before .before .args in
     let v = c .before .before .before .wire-value .ensures ∙ c .before .before .before .before .native-shape .ensures ∙ ap₂ (λ (l : List Wire) (k : ℕ). shape-of (returned-native (getElem? l k))) (sym e) (c .before .before .before .before .before .index .ensures) in
-    quiet d ip (shaped (Native (a .k) (a .n))) s _ _ _ _ _ (c .passing .ensures ∙ ap (λ (m : ℕ). passingOf m _ 1 0) (c .before .before .index2 .ensures)) (quiet-native d s _ (a .k) (a .n) 0 false (lt-leb 128 (a .n) (c .before .if1 .taken)) refl v)
+    quiet d ip (shaped (Native (a .k) (a .n))) s _ _ _ _ _ (c .passing .ensures ∙ ap (λ (m : ℕ). passingOf m (c .before .before .before .wire-value .result) 1 0) (c .before .before .index2 .ensures)) (quiet-native d s _ (a .k) (a .n) 0 false (lt-leb 128 (a .n) (c .before .if1 .taken)) refl v)
 
--- src/lib.rt:240:1
 returns-2 : tie.Need-returns-2
 unfolding choose
 returns-2 c =
     λ d ip s e. let a = c .before .before .before .before .before .before .before .args in
     let v = c .before .before .before .wire-value .ensures ∙ c .before .before .before .before .native-shape .ensures ∙ ap₂ (λ (l : List Wire) (k : ℕ). shape-of (returned-native (getElem? l k))) (sym e) (c .before .before .before .before .before .index .ensures) in
-    quiet d ip (shaped (Native (a .k) (a .n))) s _ _ _ _ _ (c .passing2 .ensures ∙ ap (λ (m : ℕ). passingOf m _ 1 1) (c .before .before .index2 .ensures)) (quiet-native d s _ (a .k) (a .n) 1 true (le-leb 128 (a .n) (c .before .if1 .left)) refl v)
+    quiet d ip (shaped (Native (a .k) (a .n))) s _ _ _ _ _ (c .passing2 .ensures ∙ ap (λ (m : ℕ). passingOf m (c .before .before .before .wire-value .result) 1 1) (c .before .before .index2 .ensures)) (quiet-native d s _ (a .k) (a .n) 1 true (le-leb 128 (a .n) (c .before .if1 .left)) refl v)
 
 pub native-spec : {M : Type 1} → statement M
 native-spec =

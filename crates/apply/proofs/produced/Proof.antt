@@ -2,24 +2,18 @@ use Rattle.apply.proofs.Signed.{sum-fits, sum-small, sum-net}
 use borrow.Author.Needs.{needs}
 use Rattle.apply.proofs.produced.Statement.{statement}
 use Rattle.apply.proofs.produced.Tie as tie
-use Rattle.apply.proofs.produced.Reads as reads
-use Rattle.apply.proofs.produced.Lts as lts
 
--- src/lib.rt:257:7
 cast-result : tie.Need-cast-result
 cast-result c = search needs
 
--- src/lib.rt:257:6
 add-result : tie.Need-add-result
-add-result c = sum-fits _ (c .before .before .before .pre .0) _ (search needs) (c .before .before .before .pre .1) (c .before .before .before .pre .2)
+add-result c = sum-fits (c .before .before .before .args .e .need) (c .before .before .before .pre .0) _ (search needs) (c .before .before .before .pre .1) (c .before .before .before .pre .2)
 
--- src/lib.rt:257:5
 cast-result-2 : tie.Need-cast-result-2
-cast-result-2 c = sum-small _ (c .before .before .before .pre .0) _ (search needs) (c .before .before .before .pre .1) (c .before .before .before .pre .2)
+cast-result-2 c = sum-small (c .before .before .before .args .e .need) (c .before .before .before .pre .0) _ (search needs) (c .before .before .before .pre .1) (c .before .before .before .pre .2)
 
--- src/lib.rt:253:1
 returns : tie.Need-returns
-returns c = sum-net _ (c .before .before .before .pre .0) _ (search needs) (c .before .before .before .pre .1) (c .before .before .before .pre .2)
+returns c = sum-net (c .before .before .before .args .e .need) (c .before .before .before .pre .0) _ (search needs) (c .before .before .before .pre .1) (c .before .before .before .pre .2)
 
 pub produced-spec : {M : Type 1} → statement M
 produced-spec = tie.close (tie.spec cast-result add-result cast-result-2 returns)

@@ -1,6 +1,6 @@
-use mathlib.Core.Path.{_≡_, refl, sym, ap, ap₂, subst, _∙_}
-use Prim.Native.Nat.{ℕ, _+_, _-_, _*_, _/_, _≤_, _<_}
-use lib.ListN.{length, getD, take, drop}
+use mathlib.Core.Path.{_≡_, sym, ap, _∙_}
+use Prim.Native.Nat.{ℕ, _-_, _*_, _≤_}
+use lib.ListN.{take}
 use Rattle.definition.specs.Tests.{text-elements}
 use Rattle.shapes.proofs.Text.{next-at}
 use mathlib.Core.Option.{some}
@@ -9,11 +9,6 @@ use Rattle.apply.specs.Answers.{refusal}
 use Rattle.apply.proofs.Tests.{elements-start, elements-more, elements-stop, elements-end}
 use Rattle.apply.proofs.text_elements.Statement.{statement}
 use Rattle.apply.proofs.text_elements.Tie as tie
-use Rattle.apply.proofs.text_elements.Reads as reads
-use Rattle.apply.proofs.text_elements.Lts as lts
-use Rattle.apply.proofs.wide.Reads as wide-reads
-use Rattle.shapes.proofs.contains.Reads as contains-reads
-use Rattle.shapes.proofs.saturating_add.Reads as saturating-add-reads
 use borrow.Author.Needs.{needs}
 
 abbrev Inv-loop : tie.InvT-loop
@@ -22,40 +17,31 @@ Inv-loop ip element count n ps i₀ at₀ i at = (i ≤ count) × (at ≡ i * el
 abbrev μ-loop : tie.MeasureT-loop
 μ-loop ip element count n ps i₀ at₀ i at = count - i
 
--- src/lib.rt:449:5
 loop-holds : tie.Need-loop-holds Inv-loop μ-loop
 loop-holds c = (search needs, search needs, elements-start _ _ _ _)
 
--- src/lib.rt:450:12
 contains-requires : tie.Need-contains-requires Inv-loop μ-loop
 contains-requires c κs = search needs
 
--- src/lib.rt:451:13
 saturating-add-requires : tie.Need-saturating-add-requires Inv-loop μ-loop
 saturating-add-requires c κs = search needs
 
--- src/lib.rt:452:13
 add-i : tie.Need-add-i Inv-loop μ-loop
 add-i c = search needs
 
--- src/lib.rt:449:5
 loop-less : tie.Need-loop-less Inv-loop μ-loop
 loop-less c = search needs
 
--- src/lib.rt:449:5
 loop-again : tie.Need-loop-again Inv-loop μ-loop
 loop-again c = (search needs, next-at (c .before .before .before .before .loop .i) (c .before .before .before .before .before .args .count) _ _ _ (c .before .before .before .loop-test .taken) (c .before .before .before .before .before .pre .1) (c .before .before .before .before .loop .inv .1) (c .saturating-add .ensures), elements-more _ _ _ _ (c .before .before .before .before .loop .i) (c .before .before .before .before .loop .at) (c .before .before .before .loop-test .taken) (c .before .before .before .before .loop .inv .1) (sym (c .before .before .contains .ensures) ∙ c .before .if1 .taken) (c .before .before .before .before .loop .inv .2))
 
--- src/lib.rt:454:51
 wide-requires : tie.Need-wide-requires Inv-loop μ-loop
 wide-requires c κs = search needs
 
--- src/lib.rt:454:13
 returns : tie.Need-returns Inv-loop μ-loop
 unfolding refusal
 returns c = ap (λ (z : ℕ). some (9 ∷ (c .before .before .before .before .before .args .ip) ∷ z ∷ [])) (c .wide .ensures) ∙ elements-stop _ _ _ _ (c .before .before .before .before .loop .i) (c .before .before .before .before .loop .at) (c .before .before .before .loop-test .taken) (c .before .before .before .before .loop .inv .1) (sym (c .before .before .contains .ensures) ∙ c .before .if1 .left) (c .before .before .before .before .loop .inv .2)
 
--- src/lib.rt:443:1
 returns-2 : tie.Need-returns-2 Inv-loop μ-loop
 unfolding refusal
 returns-2 c = elements-end _ _ _ _ (c .before .loop .i) (c .loop-test .left) (c .before .loop .inv .2)

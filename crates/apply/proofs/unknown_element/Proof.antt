@@ -3,20 +3,13 @@ use Rattle.apply.proofs.Rules.{quiet, quiet-boxed, quiet-indexed}
 use borrow.Author.Needs.{needs}
 use Rattle.apply.proofs.unknown_element.Statement.{statement}
 use Rattle.apply.proofs.unknown_element.Tie as tie
-use Rattle.apply.proofs.unknown_element.Reads as reads
-use Rattle.apply.proofs.unknown_element.Lts as lts
-use Rattle.apply.proofs.passing.Reads as passing-reads
-use Rattle.shapes.proofs.unknown_value.Reads as unknown-value-reads
 
--- src/lib.rt:205:9
 unknown-value-requires : tie.Need-unknown-value-requires
 unknown-value-requires c κs = search needs
 
--- src/lib.rt:206:5
 passing-requires : tie.Need-passing-requires
 passing-requires c κs = search needs
 
--- src/lib.rt:202:1
 returns : tie.Need-returns
 returns c =
     λ d ip s. (

@@ -1,5 +1,4 @@
-use mathlib.Core.Path.{_≡_, refl, sym, ap, ap₂, subst, _∙_}
-use Prim.Native.Nat.{ℕ, _+_, _-_, _*_, _≤_, _<_}
+use mathlib.Core.Path.{sym, ap, _∙_}
 use Rattle.definition.specs.Shapes.{from-wire}
 use Rattle.definition.specs.Instructions.{shaped, Yield, Sig}
 use Rattle.bytecode.specs.Meaning.{chunkOf, chunk-sig}
@@ -7,25 +6,16 @@ use Rattle.apply.proofs.Rules.{quiet, quiet-yield}
 use borrow.Author.Needs.{needs}
 use Rattle.apply.proofs.yields.Statement.{statement}
 use Rattle.apply.proofs.yields.Tie as tie
-use Rattle.apply.proofs.yields.Reads as reads
-use Rattle.apply.proofs.yields.Lts as lts
-use Rattle.apply.proofs.passing.Reads as passing-reads
-use Rattle.apply.proofs.wire_value.Reads as wire-value-reads
-use Rattle.bytecode.proofs.sig_resume.Reads as sig-resume-reads
 
--- src/lib.rt:235:24
 sig-resume-requires : tie.Need-sig-resume-requires
 sig-resume-requires c κs = search needs
 
--- src/lib.rt:235:9
 wire-value-requires : tie.Need-wire-value-requires
 wire-value-requires c κs = search needs
 
--- src/lib.rt:236:5
 passing-requires : tie.Need-passing-requires
 passing-requires c κs = search needs
 
--- src/lib.rt:232:1
 returns : tie.Need-returns
 returns c =
     λ ip s. let t = c .before .before .before .before .args .t .now in

@@ -5,9 +5,6 @@ use Rattle.shapes.specs.Slots.{Filled}
 use Rattle.shapes.proofs.Stores.{fill-start, fill-more}
 use Rattle.shapes.proofs.State.fill.Statement.{statement}
 use Rattle.shapes.proofs.State.fill.Tie as tie
-use Rattle.shapes.proofs.State.fill.Reads as reads
-use Rattle.shapes.proofs.State.fill.Lts as lts
-use Rattle.shapes.proofs.State.write.Reads as write-reads
 use borrow.Author.Needs.{needs}
 use native.Mathlib.Omega.{arith}
 
@@ -17,27 +14,21 @@ Inv-loop lo hi v out₀ i₀ out i = (lo ≤ i) × (i ≤ hi) × Filled out₀ l
 abbrev μ-loop : tie.MeasureT-loop
 μ-loop lo hi v out₀ i₀ out i = hi - i
 
--- src/lib.rt:614:9
 loop-holds : tie.Need-loop-holds Inv-loop μ-loop
 loop-holds c = (search needs, search needs, fill-start _ _ _)
 
--- src/lib.rt:615:13
 write-requires : tie.Need-write-requires Inv-loop μ-loop
 write-requires c κs = search needs
 
--- src/lib.rt:616:13
 add-i : tie.Need-add-i Inv-loop μ-loop
 add-i c = search needs
 
--- src/lib.rt:614:9
 loop-less : tie.Need-loop-less Inv-loop μ-loop
 loop-less c = search needs
 
--- src/lib.rt:614:9
 loop-again : tie.Need-loop-again Inv-loop μ-loop
 loop-again c = (search needs, search needs, fill-more _ _ _ _ _ _ (c .before .before .loop .inv .0) (c .before .before .loop .inv .2) (c .write .ensures))
 
--- src/lib.rt:608:5
 returns : tie.Need-returns Inv-loop μ-loop
 returns c = let e : (c .before .loop .i) ≡ (c .before .before .args .hi) = omega arith in subst (λ (m : ℕ). Filled (c .before .before .args .self) (c .before .before .args .lo) m (valueOf (c .before .before .args .v)) (c .before .loop .out)) e (c .before .loop .inv .2)
 

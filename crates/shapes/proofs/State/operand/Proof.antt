@@ -5,34 +5,24 @@ use Rattle.shapes.proofs.Lists.{down-at, down-past}
 use borrow.Author.Needs.{needs}
 use Rattle.shapes.proofs.State.operand.Statement.{statement}
 use Rattle.shapes.proofs.State.operand.Tie as tie
-use Rattle.shapes.proofs.State.operand.Reads as reads
-use Rattle.shapes.proofs.State.operand.Lts as lts
-use Rattle.shapes.proofs.State.read.Reads as read-reads
-use Rattle.shapes.proofs.unknown_value.Reads as unknown-value-reads
 
--- src/lib.rt:592:23
 sub-read : tie.Need-sub-read
 sub-read c = search needs
 
--- src/lib.rt:592:23
 sub-read-2 : tie.Need-sub-read-2
 sub-read-2 c = search needs
 
--- src/lib.rt:592:13
 read-requires : tie.Need-read-requires
 read-requires c κs = search needs
 
--- src/lib.rt:594:13
 unknown-value-requires : tie.Need-unknown-value-requires
 unknown-value-requires c κs = search needs
 
--- src/lib.rt:586:5
 returns : tie.Need-returns
 returns c =
     let a = c .before .before .args in
     c .read .ensures ∙ down-at (valueAt (a .self .slots) (a .self .places)) (a .self .height) (a .i) unknown (c .before .if1 .taken)
 
--- src/lib.rt:586:5
 returns-2 : tie.Need-returns-2
 returns-2 c =
     let a = c .before .before .args in
