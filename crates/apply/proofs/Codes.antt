@@ -15,6 +15,8 @@ use Rattle.definition.specs.Basics.{is-member}
 use Rattle.definition.specs.Instructions.{Instr as AnyInstr, Chunk, Owner, Struct, Tuple, Enum, shaped, SetLocal, Call, NewFlat, GetFlat, GetIndex, Flat, FlatNested}
 use Rattle.definition.specs.Instructions.{ElemFlat, ElemNested, Const, GetLocal, Dup, IndexBoxed, GetDataIndexed, SetDataIndexed, BoundsCheck, IsEnum, IsStruct}
 use Rattle.definition.specs.Instructions.{Yield, Native}
+use Rattle.definition.specs.Shapes.{Shape as AnyShape, unknown}
+use Rattle.definition.specs.Tests.{reading, is-blind, is-unknown}
 use Rattle.definition.specs.Ops.{ops, row, instr, instr-of, make-at}
 use Rattle.definition.specs.Effects.{need, takes, net, pushes, effect}
 use Rattle.definition.specs.Walk.{State as AnyState}
@@ -106,6 +108,27 @@ module _ (i : Instr) where
         → Rules c ip (instrOf i) s r
     unfolding instr instr-of ops row make-at
     as-nested e h = ⊎-elim (λ k. rules-at 37 k (h Struct)) (λ d. ⊎-elim (λ k. rules-at 40 k (h Tuple)) (λ k. rules-at 43 k (h Enum)) d) e
+
+  -- the mark of a flat access
+  module _ (c : Chunk) (st : List AnyShape) (b : Bool) where
+    marked : (k : ℕ) → i .code ≡ k → b ≡ is-blind (reading c (at k)) st → b ≡ is-blind (reading c (instrOf i)) st
+    marked k e h = h ∙ ap (λ (j : AnyInstr). is-blind (reading c j) st) (sym (code-at k e))
+
+    pub mark-index : i .code ≡ 10 → b ≡ is-unknown (getD st 1 unknown) → b ≡ is-blind (reading c (instrOf i)) st
+    unfolding instr instr-of ops row make-at reading is-blind
+    mark-index e h = marked 10 e h
+
+    pub mark-part : i .code ≡ 11 → b ≡ is-unknown (getD st 1 unknown) → b ≡ is-blind (reading c (instrOf i)) st
+    unfolding instr instr-of ops row make-at reading is-blind
+    mark-part e h = marked 11 e h
+
+    pub mark-flat : (i .code ≡ 36) ⊎ ((i .code ≡ 39) ⊎ (i .code ≡ 42)) → b ≡ is-unknown (getD st 0 unknown) → b ≡ is-blind (reading c (instrOf i)) st
+    unfolding instr instr-of ops row make-at reading is-blind
+    mark-flat e h = ⊎-elim (λ k. marked 36 k h) (λ d. ⊎-elim (λ k. marked 39 k h) (λ k. marked 42 k h) d) e
+
+    pub mark-nested : (i .code ≡ 37) ⊎ ((i .code ≡ 40) ⊎ (i .code ≡ 43)) → b ≡ is-unknown (getD st 0 unknown) → b ≡ is-blind (reading c (instrOf i)) st
+    unfolding instr instr-of ops row make-at reading is-blind
+    mark-nested e h = ⊎-elim (λ k. marked 37 k h) (λ d. ⊎-elim (λ k. marked 40 k h) (λ k. marked 43 k h) d) e
 
   pub is-set-local : i .code ≡ 5 → instrOf i ≡ SetLocal (i .a)
   unfolding instr instr-of ops row make-at
@@ -411,6 +434,250 @@ module _ (i : Instr) (c : Chunk) where
   pub generic-code : is-member (i .code) shaped-codes ≡ false → i .code < 75 → (is-generic (instrOf i) ≡ true) × (length (pushes c (instrOf i) [] []) ≤ 3)
   unfolding instrOf
   generic-code e h = upto Right 0 75 all-right (i .code) (omega arith) (omega arith) e
+
+-- every other code makes no flat access
+abbrev flat-codes : List ℕ
+flat-codes = 10 ∷ 11 ∷ 36 ∷ 37 ∷ 39 ∷ 40 ∷ 42 ∷ 43 ∷ []
+
+module _ (i : Instr) (c : Chunk) (st : List AnyShape) where
+  abbrev Unmarked : ℕ → Type 0
+  Unmarked k = is-member k flat-codes ≡ false → false ≡ is-blind (reading c (at i k)) st
+
+  none-marked : Each Unmarked 0 75
+  unfolding is-member reading is-blind instr instr-of ops row make-at
+  none-marked = (
+    (λ e. refl),
+    (
+      (λ e. refl),
+      (
+        (λ e. refl),
+        (
+          (λ e. refl),
+          (
+            (λ e. refl),
+            (
+              (λ e. refl),
+              (
+                (λ e. refl),
+                (
+                  (λ e. refl),
+                  (
+                    (λ e. refl),
+                    (
+                      (λ e. refl),
+                      (
+                        (λ e. own-rule i c e),
+                        (
+                          (λ e. own-rule i c e),
+                          (
+                            (λ e. refl),
+                            (
+                              (λ e. refl),
+                              (
+                                (λ e. refl),
+                                (
+                                  (λ e. refl),
+                                  (
+                                    (λ e. refl),
+                                    (
+                                      (λ e. refl),
+                                      (
+                                        (λ e. refl),
+                                        (
+                                          (λ e. refl),
+                                          (
+                                            (λ e. refl),
+                                            (
+                                              (λ e. refl),
+                                              (
+                                                (λ e. refl),
+                                                (
+                                                  (λ e. refl),
+                                                  (
+                                                    (λ e. refl),
+                                                    (
+                                                      (λ e. refl),
+                                                      (
+                                                        (λ e. refl),
+                                                        (
+                                                          (λ e. refl),
+                                                          (
+                                                            (λ e. refl),
+                                                            (
+                                                              (λ e. refl),
+                                                              (
+                                                                (λ e. refl),
+                                                                (
+                                                                  (λ e. refl),
+                                                                  (
+                                                                    (λ e. refl),
+                                                                    (
+                                                                      (λ e. refl),
+                                                                      (
+                                                                        (λ e. refl),
+                                                                        (
+                                                                          (λ e. refl),
+                                                                          (
+                                                                            (λ e. own-rule i c e),
+                                                                            (
+                                                                              (λ e. own-rule i c e),
+                                                                              (
+                                                                                (λ e. refl),
+                                                                                (
+                                                                                  (λ e. own-rule i c e),
+                                                                                  (
+                                                                                    (λ e. own-rule i c e),
+                                                                                    (
+                                                                                      (λ e. refl),
+                                                                                      (
+                                                                                        (λ e. own-rule i c e),
+                                                                                        (
+                                                                                          (λ e. own-rule i c e),
+                                                                                          (
+                                                                                            (λ e. refl),
+                                                                                            (
+                                                                                              (λ e. refl),
+                                                                                              (
+                                                                                                (λ e. refl),
+                                                                                                (
+                                                                                                  (λ e. refl),
+                                                                                                  (
+                                                                                                    (λ e. refl),
+                                                                                                    (
+                                                                                                      (λ e. refl),
+                                                                                                      (
+                                                                                                        (λ e. refl),
+                                                                                                        (
+                                                                                                          (λ e. refl),
+                                                                                                          (
+                                                                                                            (λ e. refl),
+                                                                                                            (
+                                                                                                              (λ e. refl),
+                                                                                                              (
+                                                                                                                (λ e. refl),
+                                                                                                                (
+                                                                                                                  (λ e. refl),
+                                                                                                                  (
+                                                                                                                    (λ e. refl),
+                                                                                                                    (
+                                                                                                                      (λ e. refl),
+                                                                                                                      (
+                                                                                                                        (λ e. refl),
+                                                                                                                        (
+                                                                                                                          (λ e. refl),
+                                                                                                                          (
+                                                                                                                            (λ e. refl),
+                                                                                                                            (
+                                                                                                                              (λ e. refl),
+                                                                                                                              (
+                                                                                                                                (λ e. refl),
+                                                                                                                                (
+                                                                                                                                  (λ e. refl),
+                                                                                                                                  (
+                                                                                                                                    (λ e. refl),
+                                                                                                                                    (
+                                                                                                                                      (λ e. refl),
+                                                                                                                                      (
+                                                                                                                                        (λ e. refl),
+                                                                                                                                        (
+                                                                                                                                          (λ e. refl),
+                                                                                                                                          (
+                                                                                                                                            (λ e. refl),
+                                                                                                                                            (
+                                                                                                                                              (λ e. refl),
+                                                                                                                                              (
+                                                                                                                                                (λ e. refl),
+                                                                                                                                                (
+                                                                                                                                                  (λ e. refl),
+                                                                                                                                                  (
+                                                                                                                                                    (λ e. refl),
+                                                                                                                                                    (
+                                                                                                                                                      (λ e. refl),
+                                                                                                                                                      (
+                                                                                                                                                        (λ e. refl),
+                                                                                                                                                        tt,
+                                                                                                                                                      ),
+                                                                                                                                                    ),
+                                                                                                                                                  ),
+                                                                                                                                                ),
+                                                                                                                                              ),
+                                                                                                                                            ),
+                                                                                                                                          ),
+                                                                                                                                        ),
+                                                                                                                                      ),
+                                                                                                                                    ),
+                                                                                                                                  ),
+                                                                                                                                ),
+                                                                                                                              ),
+                                                                                                                            ),
+                                                                                                                          ),
+                                                                                                                        ),
+                                                                                                                      ),
+                                                                                                                    ),
+                                                                                                                  ),
+                                                                                                                ),
+                                                                                                              ),
+                                                                                                            ),
+                                                                                                          ),
+                                                                                                        ),
+                                                                                                      ),
+                                                                                                    ),
+                                                                                                  ),
+                                                                                                ),
+                                                                                              ),
+                                                                                            ),
+                                                                                          ),
+                                                                                        ),
+                                                                                      ),
+                                                                                    ),
+                                                                                  ),
+                                                                                ),
+                                                                              ),
+                                                                            ),
+                                                                          ),
+                                                                        ),
+                                                                      ),
+                                                                    ),
+                                                                  ),
+                                                                ),
+                                                              ),
+                                                            ),
+                                                          ),
+                                                        ),
+                                                      ),
+                                                    ),
+                                                  ),
+                                                ),
+                                              ),
+                                            ),
+                                          ),
+                                        ),
+                                      ),
+                                    ),
+                                  ),
+                                ),
+                              ),
+                            ),
+                          ),
+                        ),
+                      ),
+                    ),
+                  ),
+                ),
+              ),
+            ),
+          ),
+        ),
+      ),
+    ),
+  )
+
+  pub unmarked : i .code < 75 → (i .code ≡ 10 → ⊥) → (i .code ≡ 11 → ⊥) → ((i .code ≡ 36) ⊎ ((i .code ≡ 39) ⊎ (i .code ≡ 42)) → ⊥)
+      → ((i .code ≡ 37) ⊎ ((i .code ≡ 40) ⊎ (i .code ≡ 43)) → ⊥) → false ≡ is-blind (reading c (instrOf i)) st
+  unfolding instrOf is-member
+  unmarked h n10 n11 n36 n37 =
+      upto Unmarked 0 75 none-marked (i .code) (omega arith) (omega arith)
+      (rw (ne-eqb (i .code) 10 n10, ne-eqb (i .code) 11 n11, ne-eqb (i .code) 36 (λ e. n36 (inl e)), ne-eqb (i .code) 37 (λ e. n37 (inl e)), ne-eqb (i .code) 39 (λ e. n36 (inr (inl e))), ne-eqb (i .code) 40 (λ e. n37 (inr (inl e))), ne-eqb (i .code) 42 (λ e. n36 (inr (inr e))), ne-eqb (i .code) 43 (λ e. n37 (inr (inr e)))))
 
 -- a code that no arm names
 module _ (k : ℕ) where

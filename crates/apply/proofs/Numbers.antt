@@ -38,8 +38,8 @@ module _ (t : List ℕ) (h : Header) (e : header-of h ≡ headerOf t) where
         (record {
           chunk = k;
           locals = locals;
-          base = s .first;
-          length = s .count;
+          first = s .first;
+          count = s .count;
           widths = record { word = h .word; float = h .float; address = a };
           «index_trap» = h .«index_trap»;
           «host_trap» = h .«host_trap»;
@@ -50,8 +50,8 @@ module _ (t : List ℕ) (h : Header) (e : header-of h ≡ headerOf t) where
           low = l;
           chunk = refl;
           locals = g;
-          base = p .first-is;
-          length = p .count-is;
+          first = p .first-is;
+          count = p .count-is;
           within = p .within;
           wide = widths;
           index = chunk-index-trap t k ∙ sym (ap (λ (z : AnyHeader). z .index-trap) e);

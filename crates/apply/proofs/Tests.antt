@@ -124,6 +124,20 @@ pub flat-outside : (s : Shape) (t : Option (List ℕ)) (ip at end k n : ℕ) →
 unfolding field-test is-unknown shapeOf unless
 flat-outside s t ip at end k n e h = (rw (e, lt-leb end n h), rw e)
 
+known : (s : Shape) → OneOf (1 ∷ 2 ∷ []) (tagOf shape-type.the-type s) → (t : Option (List ℕ)) → false ≡ is-unknown (shapeOf s t)
+unfolding is-unknown shapeOf
+known Unknown o t = absurd (miss (1 ∷ 2 ∷ []) 0 tt o)
+known (Scalar k) o t = refl
+known (Composite k n) o t = refl
+
+module _ (s : Shape) (t : Option (List ℕ)) where
+  pub shape-unknown : s ≡ Unknown → true ≡ is-unknown (shapeOf s t)
+  unfolding is-unknown shapeOf
+  shape-unknown e = rw e
+
+  pub shape-known : OneOf (1 ∷ 2 ∷ []) (tagOf shape-type.the-type s) → false ≡ is-unknown (shapeOf s t)
+  shape-known o = known s o t
+
 -- ── A text read ───────────────────────────────────────────────────────────────────────────
 
 none-if : (b : Bool) → none ≡ test-if b none

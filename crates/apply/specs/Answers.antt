@@ -53,9 +53,9 @@ pub record Of (t : List ℕ) (k : ℕ) (x : Ctx) : Type 0 where
   pub low : k < 64
   pub chunk : x .chunk ≡ k
   pub locals : x .locals ≡ localsAt t k
-  pub base : x .base ≡ first-op t k
-  pub length : x .length ≡ op-count t k
-  pub within : x .base + x .length ≤ 4096
+  pub first : x .first ≡ first-op t k
+  pub count : x .count ≡ op-count t k
+  pub within : x .first + x .count ≤ 4096
   pub wide : Wide (x .widths) (chunkOf t k)
   pub index : chunkOf t k .index-trap ≡ x .«index_trap»
   pub host : chunkOf t k .host-trap ≡ x .«host_trap»
@@ -67,9 +67,8 @@ pub record Within (i : Instr) : Type 0 where
   pub b-low : i .b ≤ getD (maxima-of (i .code)) 1 0
   pub c-low : i .c ≤ getD (maxima-of (i .code)) 2 0
 
--- The examination of an instruction of the chunk under check: the definition's, and where it passes the definition's mark. There are never more than 64
--- operands.
-pub record Examined (t : List ℕ) (x : Ctx) (i : Instr) (s : State) (floor ip : ℕ) (r : Step) : Type 0 where
+-- The examination of an instruction of the chunk under check, and its mark, are the definition's. There are never more than 64 operands.
+pub record Examined (t : List ℕ) (x : Ctx) (i : Instr) (ip floor : ℕ) (s : State) (r : Step) : Type 0 where
   pub result : resultOf (x .locals) r ≡ examine (chunkOf t (x .chunk)) ip floor (instrOf i) (stateOf (x .locals) s)
-  pub blind : refusal (r .verdict) ≡ none → r .blind ≡ is-blind (reading (chunkOf t (x .chunk)) (instrOf i)) (stackOf s)
+  pub blind : r .blind ≡ is-blind (reading (chunkOf t (x .chunk)) (instrOf i)) (stackOf s)
   pub low : r .state .height ≤ 64

@@ -23,10 +23,6 @@ use Rattle.apply.specs.Answers.{refusal, resultOf}
 abbrev pub own-tests : Chunk → ℕ → Instr → List AnyShape → Option (List ℕ)
 own-tests c ip i st = first (reading-test ip (reading c i) st) (other-tests c ip i st)
 
--- those, limit 5, and the state after
-unfoldable pub own : Chunk → ℕ → Instr → AnyState → Result AnyState
-own c ip i s = pass (first (own-tests c ip i (s .stack)) (height-test ip (height (after c i s)))) (after c i s)
-
 -- what an instruction does where its tests pass: takes so many, pushes a value and numbers of kind 3 above it, and writes no local
 pub record Moves (c : Chunk) (i : Instr) (s : AnyState) (take : ℕ) (x : AnyShape) (m n : ℕ) : Type 0 where
   pub keeps : set-local i ≡ none
@@ -73,8 +69,8 @@ is-generic (GetFlat o f) = false
 is-generic (GetBoxed o n) = true
 is-generic (GetIndex e) = false
 
--- The step of an instruction: after a test that comes first, the definition's own, and where it passes the definition's mark.
+-- The step of an instruction: after a test that comes first, the definition's own; and its mark.
 pub record Stepped (before : Option (List ℕ)) (c : Chunk) (locals ip : ℕ) (i : Instr) (s : AnyState) (r : Step) : Type 0 where
   pub result : resultOf locals r ≡ pass (first before (first (own-tests c ip i (s .stack)) (height-test ip (height (after c i s))))) (after c i s)
-  pub blind : refusal (r .verdict) ≡ none → r .blind ≡ is-blind (reading c i) (s .stack)
+  pub blind : r .blind ≡ is-blind (reading c i) (s .stack)
   pub low : r .state .height ≤ 64

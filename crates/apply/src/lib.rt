@@ -24,7 +24,7 @@ ghost use Rattle.definition.specs.Shapes.{Shape as AnyShape, unknown, scalar, c
 ghost use Rattle.definition.specs.Instructions.{Chunk, Owner, Instr as AnyInstr, shaped, Const, GetLocal, Dup, IndexBoxed, GetDataIndexed, SetDataIndexed, BoundsCheck, IsEnum, IsStruct, Yield, Native, SetLocal, Call, NewFlat, GetFlat, Flat, FlatNested, GetIndex, ElemFlat, ElemNested};
 ghost use Rattle.definition.specs.Module.{no-sig};
 ghost use Rattle.definition.specs.Effects.{width, need, net, packed, const-shape, shape-of, returned};
-ghost use Rattle.definition.specs.Tests.{field-test, is-unknown, text-field-test, test-if, index-test, text-index-test, text-elements, fits-declared, size-test, enum-test, args-test, call-test};
+ghost use Rattle.definition.specs.Tests.{field-test, is-unknown, is-blind, reading, text-field-test, test-if, index-test, text-index-test, text-elements, fits-declared, size-test, enum-test, args-test, call-test};
 ghost use Rattle.definition.specs.Walk.{State as AnyState, examine, height-test, floor-test, need-test};
 ghost use Rattle.value_layout.specs.Sizes.{Wide};
 ghost use Rattle.bytecode.specs.Meaning.{chunkOf, sigsOf, nativesOf, enum-sizesOf};
@@ -81,8 +81,8 @@ fn index(x: u32) -> usize
 pub struct Ctx {
     pub chunk: usize,
     pub locals: usize,
-    pub base: usize,
-    pub length: usize,
+    pub first: usize,
+    pub count: usize,
     pub widths: Widths,
     pub index_trap: u16,
     pub host_trap: u16,
@@ -104,8 +104,8 @@ pub fn context(t: &[u64], k: usize) -> Ctx
     Ctx {
         chunk: k,
         locals: locals,
-        base: code.first,
-        length: code.count,
+        first: code.first,
+        count: code.count,
         widths: widths,
         index_trap: h.index_trap,
         host_trap: h.host_trap,
@@ -681,7 +681,7 @@ fn call(t: &[u64], s: State, callee: u32, n: usize, ip: usize) -> Rule
 
 // ---- the state after
 
-// blind: whether a flat access met an unknown operand. Both count only where the verdict is Passed.
+// blind: whether a flat access met an unknown operand. The state counts only where the verdict is Passed.
 pub struct Step {
     pub verdict: Verdict,
     pub blind: bool,
@@ -776,6 +776,31 @@ fn rule_of(t: &[u64], x: Ctx, i: Instr, e: Effect, s: State, ip: usize) -> Rule
     }
 }
 
+fn is_unknown(v: Value) -> bool
+    ensures { λ r. ⌜ r ≡ is-unknown (valueOf v) ⌝ }
+{
+    let shape = v.shape;
+    match shape {
+        Shape::Unknown => true,
+        _ => false,
+    }
+}
+
+// Whether an instruction is a flat access of an unknown operand, one that is missing included.
+fn met_unknown(i: Instr, s: State) -> bool
+    requires { ⌜ Within i × (s .height ≤ 64) ⌝ }
+    ensures { λ r. ⌜ ((c : Chunk) → r ≡ is-blind (reading c (instrOf i)) (stackOf s)) ⌝ }
+{
+    let code = i.code;
+    match code {
+        10 => is_unknown(s.operand(1)),
+        11 => is_unknown(s.operand(1)),
+        36 | 39 | 42 => is_unknown(s.operand(0)),
+        37 | 40 | 43 => is_unknown(s.operand(0)),
+        _ => false,
+    }
+}
+
 // 12, before every rule: the operands from the floor up are the loop's own.
 fn check_floor(height: usize, need: usize, floor: usize, ip: usize) -> Verdict
     requires { ⌜ (floor ≤ 64) × (need < 4294967296) ⌝ }
@@ -799,7 +824,7 @@ fn apply_op(t: &[u64], x: Ctx, i: Instr, e: Effect, s: State, ip: usize) -> Step
     if s.height < index(e.need) {
         return Step {
             verdict: Verdict::StackUnderflow(ip),
-            blind: false,
+            blind: met_unknown(i, s),
             state: s,
         };
     }
@@ -818,10 +843,10 @@ fn apply_op(t: &[u64], x: Ctx, i: Instr, e: Effect, s: State, ip: usize) -> Step
     }
 }
 
-pub fn examine(t: &[u64], x: Ctx, i: Instr, s: State, floor: usize, ip: usize) -> Step
+pub fn examine(t: &[u64], x: Ctx, i: Instr, ip: usize, floor: usize, s: State) -> Step
     requires { ⌜ Of (now t) (x .chunk) x ⌝ }
     requires { ⌜ Within i × (floor ≤ 64) × (s .height ≤ 64) ⌝ }
-    ensures { λ r. ⌜ Examined (now (t .entry)) x i s floor ip r ⌝ }
+    ensures { λ r. ⌜ Examined (now (t .entry)) x i ip floor s r ⌝ }
 {
     let e = bytecode::op_depth_effect(i, x.index_trap, x.host_trap);
     let verdict = check_floor(s.height, index(e.need), floor, ip);
@@ -830,7 +855,7 @@ pub fn examine(t: &[u64], x: Ctx, i: Instr, s: State, floor: usize, ip: usize) -
     }
     Step {
         verdict: verdict,
-        blind: false,
+        blind: met_unknown(i, s),
         state: s,
     }
 }

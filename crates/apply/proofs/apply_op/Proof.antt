@@ -1,6 +1,6 @@
-use mathlib.Core.Path.{_≡_, refl, sym, ap, subst, _∙_}
-use mathlib.Core.Option.{Option, none, some}
-use mathlib.Core.List.{List, _∷_, []}
+use mathlib.Core.Path.{_≡_, sym, ap, subst, _∙_}
+use mathlib.Core.Option.{Option, none}
+use mathlib.Core.List.{List}
 use Prim.Native.Nat.{ℕ, _≤_, _<_}
 use Rattle.definition.specs.Basics.{pass}
 use Rattle.definition.specs.Effects.{need}
@@ -9,7 +9,7 @@ use Rattle.bytecode.specs.Meaning.{chunkOf}
 use Rattle.bytecode.specs.Parts.{instrOf}
 use Rattle.shapes.specs.Model.{stateOf}
 use Rattle.apply.specs.Answers.{refusal, is-none}
-use Rattle.apply.proofs.Tests.{is-none-eq, not-none}
+use Rattle.apply.proofs.Tests.{is-none-eq}
 use Rattle.apply.proofs.Numbers.{locals-fit, effect-of}
 use Rattle.apply.proofs.Codes.{is-set-local, local-need}
 use Rattle.apply.proofs.Steps.{take-fits, stepped-after, stepped-as, stop-before, stop-own, under, not-under}
@@ -21,16 +21,19 @@ use native.Mathlib.Omega.{arith}
 index-requires : tie.Need-index-requires
 index-requires c κs = search needs
 
+met-unknown-requires : tie.Need-met-unknown-requires
+met-unknown-requires c κs = search needs
+
 returns : tie.Need-returns
 unfolding refusal
 returns c =
-    let a = c .before .before .before .before .args in
+    let a = c .before .before .before .before .before .args in
     let d = chunkOf (a .t .now) (a .x .chunk) in
     let s = stateOf (a .x .locals) (a .s) in
-    let u = under (a .ip) (a .s .height) (a .e .need) (subst (λ (n : ℕ). (a .s .height) < n) (c .before .before .index .ensures) (c .if1 .taken)) in
+    let u = under (a .ip) (a .s .height) (a .e .need) (subst (λ (n : ℕ). (a .s .height) < n) (c .before .before .before .index .ensures) (c .before .if1 .taken)) in
     record {
       result = ap (λ (z : Option (List ℕ)). pass z s) u ∙ stop-before d (a .ip) (instrOf (a .i)) s s (need-test (a .ip) (a .s .height) (a .e .need)) _ (ap is-none (sym u));
-      blind = λ z. absurd (not-none (some (5 ∷ (a .ip) ∷ [])) refl z);
+      blind = c .met-unknown .ensures d;
       low = search needs;
     }
 
@@ -80,7 +83,7 @@ returns-4 c =
     let u = not-under (a .ip) (a .s .height) (a .e .need) (subst (λ (n : ℕ). n ≤ (a .s .height)) (c .before .before .before .before .before .before .before .index .ensures) (c .before .before .before .before .before .if1 .left)) in
     record {
       result = stop-own d (a .ip) (instrOf (a .i)) s s (refusal (c .before .before .rule-of .result .verdict)) _ u (c .before .before .rule-of .ensures .tests) (sym (c .before .passed .ensures) ∙ c .if3 .left);
-      blind = λ z. absurd (not-none _ (sym (c .before .passed .ensures) ∙ c .if3 .left) z);
+      blind = c .before .before .rule-of .ensures .blind;
       low = search needs;
     }
 
@@ -89,6 +92,7 @@ apply-op-spec =
     tie.close
     (tie.spec
     index-requires
+    met-unknown-requires
     returns
     set-local-requires
     returns-2

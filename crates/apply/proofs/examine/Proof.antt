@@ -6,7 +6,6 @@ use Rattle.bytecode.specs.Parts.{instrOf}
 use Rattle.shapes.specs.Model.{stateOf, valueAt}
 use Rattle.shapes.proofs.Lists.{down-length}
 use Rattle.apply.specs.Answers.{refusal}
-use Rattle.apply.proofs.Tests.{not-none}
 use Rattle.apply.proofs.Numbers.{effect-of}
 use Rattle.apply.proofs.Steps.{examine-step, examine-stop}
 use borrow.Author.Needs.{needs}
@@ -41,16 +40,19 @@ returns c =
       low = c .apply-op .ensures .low;
     }
 
+met-unknown-requires : tie.Need-met-unknown-requires
+met-unknown-requires c κs = search needs
+
 returns-2 : tie.Need-returns-2
 returns-2 c =
-    let a = c .before .before .before .before .before .before .args in
+    let a = c .before .before .before .before .before .before .before .args in
     let d = chunkOf (a .t .now) (a .x .chunk) in
     let s = stateOf (a .x .locals) (a .s) in
     let h = down-length (valueAt (a .s .slots) (a .s .places)) (a .s .height) in
-    let f = effect-of (a .t .now) (a .x .chunk) (a .x) (a .i) (c .before .before .before .before .op-depth-effect .result) (c .before .before .before .before .before .before .pre .0) (c .before .before .before .before .op-depth-effect .ensures) .0 in
+    let f = effect-of (a .t .now) (a .x .chunk) (a .x) (a .i) (c .before .before .before .before .before .op-depth-effect .result) (c .before .before .before .before .before .before .before .pre .0) (c .before .before .before .before .before .op-depth-effect .ensures) .0 in
     record {
-      result = examine-stop d (a .ip) (a .floor) (instrOf (a .i)) s (a .s .height) (c .before .before .before .before .op-depth-effect .result .need) (sym h) f (refusal (c .before .before .check-floor .result)) s (c .before .before .check-floor .ensures ∙ ap (λ (n : ℕ). floor-test (a .ip) (a .floor) (a .s .height) n) (c .before .before .before .index .ensures)) (sym (c .before .passed .ensures) ∙ c .if1 .left);
-      blind = λ z. absurd (not-none (refusal (c .before .before .check-floor .result)) (sym (c .before .passed .ensures) ∙ c .if1 .left) z);
+      result = examine-stop d (a .ip) (a .floor) (instrOf (a .i)) s (a .s .height) (c .before .before .before .before .before .op-depth-effect .result .need) (sym h) f (refusal (c .before .before .before .check-floor .result)) s (c .before .before .before .check-floor .ensures ∙ ap (λ (n : ℕ). floor-test (a .ip) (a .floor) (a .s .height) n) (c .before .before .before .before .index .ensures)) (sym (c .before .before .passed .ensures) ∙ c .before .if1 .left);
+      blind = c .met-unknown .ensures d;
       low = search needs;
     }
 
@@ -64,4 +66,5 @@ examine-spec =
     passed-requires
     apply-op-requires
     returns
+    met-unknown-requires
     returns-2)

@@ -56,7 +56,7 @@ returns c =
     record {
       result = local-done d (a .ip) (a .k) s v _ (c .before .before .before .before .before .before .before .before .operand .ensures) f (c .before .before .before .before .shapes-compatible .result) (stateOf n (c .set-local .result)) (c .before .before .before .before .shapes-compatible .ensures _ none) (c .before .before .before .if1 .taken) (omega arith) (omega arith)
           (c .set-local .ensures .1 ∙ ap₂ (λ (j : ℕ) (z : AnyState). withLocal j v z) (c .before .index2 .ensures) (c .before .before .pop .ensures .1 n));
-      blind = λ z. local-blind d (a .ip) (a .k) s v _ (c .before .before .before .before .before .before .before .before .operand .ensures) f;
+      blind = local-blind d (a .ip) (a .k) s v _ (c .before .before .before .before .before .before .before .before .operand .ensures) f;
       low = omega (arith, c .set-local .ensures .0, c .before .before .pop .ensures .0);
     }
 
@@ -74,7 +74,7 @@ returns-2 c =
     let f = c .before .before .before .from-wire .ensures ∙ c .before .before .before .before .sig-param .ensures ∙ ap₂ (λ (g : Sig) (j : ℕ). getD (map from-wire (g .params)) j unknown) (sym (chunk-sig (a .t .now) (a .x .chunk))) (c .before .before .before .before .before .index .ensures) in
     record {
       result = ap (λ (z : ℕ). pass (some (13 ∷ (a .ip) ∷ z ∷ [])) s) (c .wide .ensures) ∙ local-refused d (a .ip) (a .k) s v _ (c .before .before .before .before .before .before .operand .ensures) f (c .before .before .shapes-compatible .result) s (c .before .before .shapes-compatible .ensures _ none) (c .before .if1 .left);
-      blind = λ z. local-blind d (a .ip) (a .k) s v _ (c .before .before .before .before .before .before .operand .ensures) f;
+      blind = local-blind d (a .ip) (a .k) s v _ (c .before .before .before .before .before .before .operand .ensures) f;
       low = search needs;
     }
 

@@ -29,7 +29,7 @@ returns c =
     λ d i n l z h. let a = c .before .before .before .before .args in
     record {
       result = over d i n (a .ip) (a .s) (a .r) z h _ _ (c .before .before .before .count .ensures .0) (c .before .before .count2 .ensures .0) (c .if1 .taken);
-      blind = λ q. h .blind;
+      blind = h .blind;
       low = search needs;
     }
 
@@ -46,7 +46,7 @@ returns-2 c =
     record {
       result = enough d i n (a .ip) (a .s) (a .r) z h _ _ _ (c .before .before .before .before .before .before .count .ensures .0) (c .before .before .before .before .before .count2 .ensures .0) (c .before .before .before .if1 .left)
           (c .replace .ensures .1 n l ∙ ap (λ (w : AnyShape). replaced (a .r .take) (valueOf (a .r .value)) (c .before .before .before .before .before .before .count .result) w (c .before .before .before .before .before .count2 .result) (stateOf n (a .s))) (c .before .scalar-value .ensures));
-      blind = λ q. h .blind;
+      blind = h .blind;
       low = omega (arith, c .replace .ensures .0);
     }
 
