@@ -4,3 +4,6 @@ pub mod Lists
 pub mod Meaning
 pub mod Operands
 pub mod Parts
+pub mod Fits
+pub mod Bridge
+pub mod Names

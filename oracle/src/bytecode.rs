@@ -1,0 +1,259 @@
+//! What the check names of the original `bytecode.rs`, which was not handed over: declared from document 01, with
+//! the names that `verify_typed.rs` and `op_depth_effect` use.
+
+use crate::form::{Cursor, Operand};
+use crate::value_layout::{CompositeKind, ScalarKind};
+
+/// Base-two logarithm of the runtime's own address bits. Only a chunk checked without its module uses it.
+pub const RUNTIME_ADDRESS_BITS_LOG2: u8 = 6;
+
+/// Marks a shared entry's KIND as a composite of LEN bytes.
+pub const SHARED_SLOT_COMPOSITE_FLAG: u8 = 0x80;
+
+/// The traps that take operands.
+pub enum TrapKind {
+    IndexOutOfBounds,
+    HostError,
+}
+
+impl TrapKind {
+    pub const fn code(&self) -> u16 {
+        match self {
+            TrapKind::IndexOutOfBounds => 8,
+            TrapKind::HostError => 9,
+        }
+    }
+}
+
+#[derive(Clone, Debug, Default, PartialEq, Eq)]
+pub struct Module {
+    pub chunks: Vec<Chunk>,
+    pub signatures: Vec<ChunkSignature>,
+    pub native_return_shapes: Vec<WireShape>,
+    pub enum_layouts: Vec<EnumLayout>,
+    pub data_layout: Option<DataLayout>,
+    pub shared_data_bytes: u32,
+    pub persistent_composite_bytes: u32,
+    pub addr_bits_log2: u8,
+}
+
+#[derive(Clone, Debug, Default, PartialEq, Eq)]
+pub struct DataLayout {
+    pub slots: Vec<DataSlot>,
+    pub shared_layout: Vec<SharedSlotLayout>,
+    pub private_composite_layout: Vec<PrivateCompositeLayout>,
+}
+
+#[derive(Clone, Debug, PartialEq, Eq)]
+pub struct DataSlot {
+    pub visibility: SlotVisibility,
+}
+
+#[derive(Clone, Copy, Debug, PartialEq, Eq)]
+pub enum SlotVisibility {
+    Shared,
+    Private,
+}
+
+#[derive(Clone, Debug, PartialEq, Eq)]
+pub struct SharedSlotLayout {
+    pub offset: u32,
+    pub kind: u8,
+    pub len: u16,
+}
+
+#[derive(Clone, Debug, PartialEq, Eq)]
+pub struct PrivateCompositeLayout {
+    pub slot: u16,
+    pub offset: u32,
+}
+
+#[derive(Clone, Debug, PartialEq, Eq)]
+pub struct EnumLayout {
+    pub min_payload: u32,
+}
+
+#[derive(Clone, Debug, PartialEq, Eq)]
+pub enum WireShape {
+    Top,
+    Scalar { kind: u8 },
+    Flat { kind: u8, size: u32 },
+}
+
+#[derive(Clone, Debug, PartialEq, Eq)]
+pub struct ChunkSignature {
+    pub params: Vec<WireShape>,
+    pub ret: WireShape,
+    pub resume: WireShape,
+}
+
+#[derive(Clone, Debug, Default, PartialEq, Eq)]
+pub struct Chunk {
+    pub local_count: u16,
+    pub constants: Vec<ConstValue>,
+    pub ops: Vec<Op>,
+}
+
+/// A constant. A listing gives its kind alone, so the variants that carry a value carry nothing here.
+#[derive(Clone, Debug, PartialEq, Eq)]
+pub enum ConstValue {
+    Unit,
+    Bool(()),
+    Byte(()),
+    Int(()),
+    Fixed(()),
+    Float(()),
+    StaticStr(()),
+    /// K 255: any other constant.
+    Other,
+}
+
+impl ConstValue {
+    /// Every constant with its K.
+    pub const KINDS: [(u8, ConstValue); 8] = [
+        (0, ConstValue::Unit),
+        (1, ConstValue::Bool(())),
+        (2, ConstValue::Byte(())),
+        (3, ConstValue::Int(())),
+        (4, ConstValue::Fixed(())),
+        (5, ConstValue::Float(())),
+        (6, ConstValue::StaticStr(())),
+        (255, ConstValue::Other),
+    ];
+
+    pub fn from_tag(tag: u8) -> Option<ConstValue> {
+        ConstValue::KINDS.into_iter().find(|(k, _)| *k == tag).map(|(_, value)| value)
+    }
+
+    pub fn to_tag(&self) -> u8 {
+        let row = ConstValue::KINDS.iter().find(|(_, value)| value == self);
+        row.expect("every constant has its K").0
+    }
+}
+
+/// Declares an operand that is written as the word of its variant and that variant's numbers.
+macro_rules! variants {
+    ($operand:ident { $($variant:ident $({ $($field:ident: $number:ty),+ })?),+ $(,)? }) => {
+        #[derive(Clone, Debug, PartialEq, Eq)]
+        pub enum $operand { $($variant $({ $($field: $number),+ })?),+ }
+
+        impl Operand for $operand {
+            fn read(cursor: &mut Cursor) -> Option<Self> {
+                cursor.text(" ")?;
+                match cursor.word()? {
+                    $(stringify!($variant) =>
+                        Some($operand::$variant $({ $($field: <$number>::read(cursor)?),+ })?),)+
+                    _ => None,
+                }
+            }
+
+            fn write(&self, out: &mut String) {
+                match self {
+                    $($operand::$variant $({ $($field),+ })? => {
+                        out.push_str(concat!(" ", stringify!($variant)));
+                        $($($field.write(out);)+)?
+                    })+
+                }
+            }
+        }
+    };
+}
+
+variants!(NewCompositeOperand {
+    Flat { kind: CompositeKind, count: u16, byte_size: u16 },
+    Boxed { kind: CompositeKind, count: u16, meta: u16 },
+});
+variants!(StructField {
+    Flat { offset: u16, kind: ScalarKind },
+    FlatNested { offset: u16, size: u16, variant: CompositeKind },
+    Boxed { name: u16 },
+});
+variants!(TupleField {
+    Flat { offset: u16, kind: ScalarKind },
+    FlatNested { offset: u16, size: u16, variant: CompositeKind },
+    Boxed { index: u8 },
+});
+variants!(EnumField {
+    Flat { offset: u16, kind: ScalarKind },
+    FlatNested { offset: u16, size: u16, variant: CompositeKind },
+    Boxed { index: u8 },
+});
+variants!(ArrayElem {
+    Flat { kind: ScalarKind },
+    FlatNested { size: u16, variant: CompositeKind },
+    Boxed,
+});
+
+impl NewCompositeOperand {
+    /// The number of operands it takes.
+    pub fn count(&self) -> u16 {
+        match self {
+            NewCompositeOperand::Flat { count, .. } | NewCompositeOperand::Boxed { count, .. } => *count,
+        }
+    }
+}
+
+impl ArrayElem {
+    /// Whether the read pushes a bounds outcome above the element.
+    pub fn has_bounds_outcome(&self) -> bool {
+        match self {
+            ArrayElem::Flat { kind } => matches!(kind, ScalarKind::Byte | ScalarKind::Int),
+            ArrayElem::FlatNested { .. } | ArrayElem::Boxed => true,
+        }
+    }
+}
+
+/// Declares the ops: each with its operands in the order in which a listing has them.
+macro_rules! ops {
+    ($($name:ident $(($($operand:ident: $form:ty),+))?),+ $(,)?) => {
+        #[derive(Clone, Debug, PartialEq, Eq)]
+        pub enum Op { $($name $(($($form),+))?),+ }
+
+        impl Op {
+            pub const NAMES: &[&str] = &[$(stringify!($name)),+];
+
+            /// Reads the operands that follow a name.
+            pub fn read(name: &str, cursor: &mut Cursor) -> Option<Op> {
+                match name {
+                    $(stringify!($name) => Some(Op::$name $(($(<$form>::read(cursor)?),+))?),)+
+                    _ => None,
+                }
+            }
+
+            /// Writes the name and the operands.
+            pub fn write(&self, out: &mut String) {
+                match self {
+                    $(Op::$name $(($($operand),+))? => {
+                        out.push_str(stringify!($name));
+                        $($($operand.write(out);)+)?
+                    })+
+                }
+            }
+        }
+    };
+}
+
+ops! {
+    Const(index: u16), GetLocal(slot: u16), GetData(slot: u32), PushImmediate(value: u8),
+    Dup,
+    SetLocal(slot: u16), SetData(slot: u32),
+    GetDataIndexed(slot: u32, count: u32), SetDataIndexed(slot: u32, count: u32),
+    BoundsCheck(length: u16), GetIndex(element: ArrayElem),
+    Add, Sub, Mul, CmpEq, CmpNe, CmpLt, CmpGt, CmpLe, CmpGe, BitAnd, BitOr, BitXor, Shl, Shr,
+    FixedMul(fraction: u8),
+    Neg, Not, IntToFloat, FloatToInt, WordToByte, ByteToWord,
+    WordToFixed(fraction: u8), FixedToWord(fraction: u8),
+    GetField(field: StructField), GetTupleField(field: TupleField), GetEnumField(field: EnumField),
+    Len, Yield,
+    IsEnum(name: u16, variant: u16, tag: u16), IsStruct(name: u16),
+    Call(callee: u16, arguments: u8),
+    CallVerifiedNative(native: u16, arguments: u8), CallExternalNative(native: u16, arguments: u8),
+    NewComposite(operand: NewCompositeOperand),
+    Div, Mod, FixedDiv(fraction: u8),
+    CheckedAdd, CheckedSub, CheckedMod, CheckedMul(fraction: u8), CheckedDiv(fraction: u8), CheckedNeg,
+    PopN(count: u8),
+    Trap(code: u16),
+    If(target: u16), BreakIf(target: u16), Else(target: u16), EndIf, Loop(target: u16), EndLoop(target: u16),
+    Break(target: u16),
+    Stream, Reset, Return,
+}

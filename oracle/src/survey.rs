@@ -1,0 +1,276 @@
+//! Generates listings and answers them in one process: counts what they reach, and compares the original with the
+//! walk of `limits`.
+
+use crate::answer::{self, Answer};
+use crate::bytecode::{
+    ArrayElem, Chunk, ChunkSignature, EnumField, NewCompositeOperand, Op, SHARED_SLOT_COMPOSITE_FLAG, StructField,
+    TupleField, WireShape,
+};
+use crate::generator::{self, Size};
+use crate::limits::{Mark, Notes, Shape};
+use crate::listing::{self, Listing, MAX_LOCALS};
+use crate::refusal::Refusal;
+use crate::{nesting, whole};
+use std::collections::BTreeMap;
+
+/// From this count on a survey must reach all that it can; fewer listings may miss something.
+pub const FULL_COUNT: u64 = 20_000;
+
+#[derive(Default)]
+pub struct Survey {
+    listings: u64,
+    bytes: u64,
+    most_instructions: usize,
+    answers: BTreeMap<String, u64>,
+    ops: BTreeMap<String, u64>,
+    notes: Notes,
+    /// Listings for which the two walks differ, or that are not written as they were read.
+    pub faults: Vec<String>,
+}
+
+pub fn survey(seed: u64, count: u64, size: Size) -> Survey {
+    let mut survey = Survey::default();
+    for number in 0..count {
+        let bytes = generator::listing(seed, number, size);
+        survey.listings += 1;
+        survey.bytes += bytes.len() as u64;
+        survey.add(number, &bytes);
+    }
+    survey
+}
+
+impl Survey {
+    fn add(&mut self, number: u64, bytes: &[u8]) {
+        let listing = match listing::read(bytes) {
+            Ok(listing) => listing,
+            Err(refusal) => return self.count_refusal(&refusal),
+        };
+        if listing::write(&listing).as_bytes() != bytes {
+            self.faults.push(format!("listing {number} is not written as it was read"));
+        }
+        self.most_instructions = self.most_instructions.max(listing.ops().count());
+        self.count_ops(&listing);
+        match nesting::check(&listing) {
+            Ok(()) => self.compare(number, &listing),
+            Err(refusal) => self.count_refusal(&refusal),
+        }
+    }
+
+    fn compare(&mut self, number: u64, listing: &Listing) {
+        self.count_tables(listing);
+        let own = match whole::check_nested(listing, &mut self.notes) {
+            Ok(marks) => {
+                self.count_marks(listing, &marks);
+                let instructions = marks.iter().map(Vec::len).sum();
+                Answer::Accepted { chunks: marks.len(), instructions }
+            }
+            Err(refusal) => Answer::Refused(refusal),
+        };
+        match answer::answer_nested(listing) {
+            Answer::BeyondCodes => count(&mut self.answers, "left out: other trap codes"),
+            Answer::BeyondLimit(limit) => count(&mut self.answers, &format!("left out: limit {limit}")),
+            original => {
+                if original != own {
+                    self.faults.push(format!("listing {number}: the original answers {original}, limits.rs {own}"));
+                }
+                match original {
+                    Answer::Refused(refusal) => self.count_refusal(&refusal),
+                    _ => count(&mut self.answers, "accepted"),
+                }
+            }
+        }
+    }
+
+    fn count_refusal(&mut self, refusal: &Refusal) {
+        let key = match (refusal.passed_limit(), refusal.reason()) {
+            (Some(limit), _) => format!("refused  2, limit {limit}"),
+            (_, Some(reason)) => format!("refused {}, reason {reason}", refusal.number),
+            _ => format!("refused {:2}", refusal.number),
+        };
+        count(&mut self.answers, &key);
+    }
+
+    fn count_ops(&mut self, listing: &Listing) {
+        for op in listing.ops() {
+            count(&mut self.ops, &form_of(op));
+        }
+    }
+
+    fn count_tables(&mut self, listing: &Listing) {
+        let module = &listing.module;
+        let mut note = |is_met: bool, what| {
+            if is_met {
+                self.notes.count(what);
+            }
+        };
+        let in_signatures = module.signatures.iter().flat_map(|sig| sig.params.iter().chain([&sig.ret, &sig.resume]));
+        let shapes: Vec<&WireShape> = module.native_return_shapes.iter().chain(in_signatures).collect();
+        let is_unknown = |shape: &&WireShape| **shape != WireShape::Top && Shape::declared(shape) == Shape::Unknown;
+        note(shapes.iter().any(is_unknown), "shape whose tag is not known");
+        let entries = &listing.layout().shared_layout;
+        note(entries.iter().any(|entry| entry.kind >= SHARED_SLOT_COMPOSITE_FLAG), "composite shared entry");
+        let (chunks, signatures) = (&module.chunks, &module.signatures);
+        let is_short = |(chunk, sig): (&Chunk, &ChunkSignature)| sig.params.len() > usize::from(chunk.local_count);
+        note(chunks.iter().zip(signatures).any(is_short), "more parameters than locals");
+        note(chunks.len() > signatures.len(), "chunk without a signature");
+        note(chunks.len() < signatures.len(), "signature without a chunk");
+    }
+
+    fn count_marks(&mut self, listing: &Listing, marks: &[Vec<Mark>]) {
+        for (op, mark) in listing.ops().zip(marks.iter().flatten()) {
+            match (op, mark.height) {
+                (Op::Else(_) | Op::EndIf | Op::EndLoop(_), _) => {}
+                (_, None) => self.notes.count("instruction that the walk does not examine"),
+                (Op::GetIndex(_), _) if mark.blind => self.notes.count("blind index"),
+                _ if mark.blind => self.notes.count("blind read"),
+                _ => {}
+            }
+        }
+    }
+
+    /// What a full survey must reach and this one did not.
+    pub fn missing(&self, size: Size) -> Vec<String> {
+        let mut missing = Vec::new();
+        let mut want = |counts: &BTreeMap<String, u64>, key: String| {
+            if !counts.contains_key(&key) {
+                missing.push(key);
+            }
+        };
+        wanted_answers(size).into_iter().for_each(|key| want(&self.answers, key));
+        wanted_forms().into_iter().for_each(|key| want(&self.ops, key));
+        let reached = |what: &&&str| !self.notes.counts.contains_key(**what);
+        missing.extend(WANTED_NOTES.iter().filter(reached).map(|what| what.to_string()));
+        // LOCALS widenings, and the pass that finds all stable.
+        let most_passes = if size == Size::Small { 3 } else { usize::from(MAX_LOCALS) + 1 };
+        let passes = (1..=most_passes).filter(|passes| !self.notes.passes.contains_key(passes));
+        missing.extend(passes.map(|passes| format!("loop with {passes} passes")));
+        missing
+    }
+
+    /// All counts, as text.
+    pub fn report(&self) -> String {
+        let mut out =
+            format!("listings {}, bytes {}, most instructions {}\n", self.listings, self.bytes, self.most_instructions);
+        let mut table = |title: &str, rows: Vec<(String, u64)>| {
+            out.push_str(&format!("\n{title}\n"));
+            for (key, times) in rows {
+                out.push_str(&format!("{times:9}  {key}\n"));
+            }
+        };
+        let rows = |counts: &BTreeMap<String, u64>| counts.iter().map(|(key, n)| (key.clone(), *n)).collect();
+        table("answers", rows(&self.answers));
+        table("ops and operand forms in listings that read", rows(&self.ops));
+        table("met by the walk", self.notes.counts.iter().map(|(key, n)| (key.to_string(), *n)).collect());
+        table("loops by passes", self.notes.passes.iter().map(|(key, n)| (key.to_string(), *n)).collect());
+        out
+    }
+}
+
+fn count(counts: &mut BTreeMap<String, u64>, key: &str) {
+    match counts.get_mut(key) {
+        Some(times) => *times += 1,
+        None => {
+            counts.insert(key.to_string(), 1);
+        }
+    }
+}
+
+fn wanted_answers(size: Size) -> Vec<String> {
+    let mut wanted: Vec<String> = [1, 3].into_iter().chain(5..=17).map(|n| format!("refused {n:2}")).collect();
+    // A small listing has not the bytes for limit 1.
+    let first_limit = if size == Size::Small { 2 } else { 1 };
+    wanted.extend((first_limit..=4).map(|limit| format!("refused  2, limit {limit}")));
+    wanted.extend((1..=4).map(|reason| format!("refused 18, reason {reason}")));
+    wanted.extend((1..=2).map(|reason| format!("refused 19, reason {reason}")));
+    wanted
+        .extend(["accepted", "left out: limit 5", "left out: limit 6", "left out: other trap codes"].map(String::from));
+    wanted
+}
+
+/// The name of an op; where it has variants, that too, and the kind that it names.
+fn form_of(op: &Op) -> String {
+    let mut line = String::new();
+    op.write(&mut line);
+    let words: Vec<&str> = line.split(' ').collect();
+    let kind = match op {
+        Op::NewComposite(NewCompositeOperand::Flat { kind, .. } | NewCompositeOperand::Boxed { kind, .. }) => {
+            kind.to_tag()
+        }
+        Op::GetField(StructField::Flat { kind, .. })
+        | Op::GetTupleField(TupleField::Flat { kind, .. })
+        | Op::GetEnumField(EnumField::Flat { kind, .. })
+        | Op::GetIndex(ArrayElem::Flat { kind }) => kind.to_tag(),
+        Op::GetField(StructField::FlatNested { variant, .. })
+        | Op::GetTupleField(TupleField::FlatNested { variant, .. })
+        | Op::GetEnumField(EnumField::FlatNested { variant, .. })
+        | Op::GetIndex(ArrayElem::FlatNested { variant, .. }) => variant.to_tag(),
+        Op::GetField(_) | Op::GetTupleField(_) | Op::GetEnumField(_) | Op::GetIndex(_) => {
+            return words[..2].join(" ");
+        }
+        _ => return words[0].to_string(),
+    };
+    format!("{} {} of {kind}", words[0], words[1])
+}
+
+fn wanted_forms() -> Vec<String> {
+    let of = |name: &str, kinds: u8| (0..kinds).map(|kind| format!("{name} of {kind}")).collect::<Vec<_>>();
+    let mut wanted = Vec::new();
+    for name in Op::NAMES {
+        match *name {
+            "NewComposite" => {
+                wanted.extend(of("NewComposite Flat", 4));
+                wanted.extend(of("NewComposite Boxed", 4));
+            }
+            "GetField" | "GetTupleField" | "GetEnumField" | "GetIndex" => {
+                wanted.extend(of(&format!("{name} Flat"), 8));
+                wanted.extend(of(&format!("{name} FlatNested"), 4));
+                wanted.push(format!("{name} Boxed"));
+            }
+            _ => wanted.push(name.to_string()),
+        }
+    }
+    wanted
+}
+
+const WANTED_NOTES: &[&str] = &[
+    "10 between arms",
+    "10 between breaks",
+    "11 where 10 would follow",
+    "12 where 5 would follow",
+    "13 past the locals",
+    "blind index",
+    "blind read",
+    "body's end after a loop",
+    "call with as many arguments as declared",
+    "call with fewer arguments than declared",
+    "call with more arguments than declared",
+    "call without a signature",
+    "chunk without a signature",
+    "composite shared entry",
+    "declared shape resumed",
+    "element of width 0 of a known array",
+    "enum of a declared size",
+    "enum without enum lines",
+    "head after a loop",
+    "instruction that the walk does not examine",
+    "loop whose body has no end",
+    "more parameters than locals",
+    "native call with a flag",
+    "native call without a flag",
+    "one break after a loop",
+    "several breaks after a loop",
+    "shape whose tag is not known",
+    "signature without a chunk",
+    "store past the locals",
+    "store to a parameter past the locals",
+    "sum of sizes at its most",
+    "text element missed",
+    "text elements read",
+    "text place read",
+    "text places built",
+    "text places cut",
+    "text places differ",
+    "text places indexed",
+    "text places joined away",
+    "unknown resumed",
+];
