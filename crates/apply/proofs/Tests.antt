@@ -37,7 +37,9 @@ use Rattle.apply.specs.declared.Verdict.the-variants.{Passed, Limit, Sta
 use Rattle.apply.specs.declared.Verdict.the-variants.{TextFieldMismatch, BranchHeightMismatch, LoopNotNeutral, LoopFloorBreach, LocalTypeMismatch}
 use Rattle.apply.specs.declared.Verdict.the-variants.{CallArgMismatch, ArrayStrideMismatch, EnumBodySizeMismatch}
 use Rattle.apply.proofs.Verdict.{the-type}
+use Rattle.apply.specs.declared.Read.{Read}
 use Rattle.apply.specs.Answers.{refusal, is-none}
+use Rattle.apply.specs.Rules.{Otherwise}
 
 -- ── Verdicts ──────────────────────────────────────────────────────────────────────────────
 
@@ -102,17 +104,29 @@ module _ (c : Constant) where
 
 -- ── A flat field read ─────────────────────────────────────────────────────────────────────
 
-pub flat-unknown : (s : Shape) (t : Option (List ℕ)) (ip at end : ℕ) → OneOf (0 ∷ 1 ∷ []) (tagOf shape-type.the-type s) → OneOf (0 ∷ 2 ∷ []) (tagOf shape-type.the-type s)
-    → (none ≡ field-test ip at end (shapeOf s t)) × (true ≡ is-unknown (shapeOf s t))
-unfolding field-test is-unknown shapeOf
-flat-unknown Unknown t ip at end o q = (refl, refl)
-flat-unknown (Scalar k) t ip at end o q = absurd (miss (0 ∷ 2 ∷ []) 1 tt q)
-flat-unknown (Composite k n) t ip at end o q = absurd (miss (0 ∷ 1 ∷ []) 2 tt o)
+pub access-unknown : (s : Shape) (ip : ℕ) (r : Read) → OneOf (0 ∷ 2 ∷ []) (tagOf shape-type.the-type s) → refusal (r .verdict) ≡ none → r .blind ≡ true → Otherwise ip s r
+unfolding Otherwise
+access-unknown Unknown ip r o e f = (e, f)
+access-unknown (Scalar k) ip r o e f = absurd (miss (0 ∷ 2 ∷ []) 1 tt o)
+access-unknown (Composite k n) ip r o e f = tt
 
-pub flat-scalar : (s : Shape) (t : Option (List ℕ)) (ip at end k : ℕ) → s ≡ Scalar k
-    → (some (7 ∷ ip ∷ []) ≡ field-test ip at end (shapeOf s t)) × (false ≡ is-unknown (shapeOf s t))
-unfolding field-test is-unknown shapeOf
-flat-scalar s t ip at end k e = (rw e, rw e)
+pub access-scalar : (s : Shape) (ip k : ℕ) (r : Read) → s ≡ Scalar k → refusal (r .verdict) ≡ some (7 ∷ ip ∷ []) → r .blind ≡ false → Otherwise ip s r
+unfolding Otherwise
+access-scalar s ip k r q e f = subst (λ (z : Shape). Otherwise ip z r) (sym q) (e, f)
+
+pub flat-other : (s : Shape) (t : Option (List ℕ)) (ip at end : ℕ) (r : Read) → OneOf (0 ∷ 1 ∷ []) (tagOf shape-type.the-type s) → Otherwise ip s r
+    → (refusal (r .verdict) ≡ field-test ip at end (shapeOf s t)) × (r .blind ≡ is-unknown (shapeOf s t))
+unfolding Otherwise field-test is-unknown shapeOf
+flat-other Unknown t ip at end r o h = h
+flat-other (Scalar k) t ip at end r o h = h
+flat-other (Composite k n) t ip at end r o h = absurd (miss (0 ∷ 1 ∷ []) 2 tt o)
+
+pub index-other : (s : Shape) (t : Option (List ℕ)) (ip w : ℕ) (r : Read) → OneOf (0 ∷ 1 ∷ []) (tagOf shape-type.the-type s) → Otherwise ip s r
+    → (refusal (r .verdict) ≡ index-test ip w (shapeOf s t)) × (r .blind ≡ is-unknown (shapeOf s t))
+unfolding Otherwise index-test is-unknown shapeOf
+index-other Unknown t ip w r o h = h
+index-other (Scalar k) t ip w r o h = h
+index-other (Composite k n) t ip w r o h = absurd (miss (0 ∷ 1 ∷ []) 2 tt o)
 
 pub flat-inside : (s : Shape) (t : Option (List ℕ)) (ip at end k n : ℕ) → s ≡ Composite k n → end ≤ n
     → (none ≡ field-test ip at end (shapeOf s t)) × (false ≡ is-unknown (shapeOf s t))
@@ -170,17 +184,6 @@ module _ (k : ℕ) (six : k ≡ 6) (s : Shape) (n : ℕ) (ps : List ℕ) (ip at 
   text-missing h f = rw (eq-eqb k 6 six, e, le-leb n 16 h, ← f)
 
 -- ── A flat index ──────────────────────────────────────────────────────────────────────────
-
-pub index-unknown : (s : Shape) (t : Option (List ℕ)) (ip w : ℕ) → OneOf (0 ∷ 1 ∷ []) (tagOf shape-type.the-type s) → OneOf (0 ∷ 2 ∷ []) (tagOf shape-type.the-type s)
-    → (none ≡ index-test ip w (shapeOf s t)) × (true ≡ is-unknown (shapeOf s t))
-unfolding index-test is-unknown shapeOf
-index-unknown Unknown t ip w o q = (refl, refl)
-index-unknown (Scalar k) t ip w o q = absurd (miss (0 ∷ 2 ∷ []) 1 tt q)
-index-unknown (Composite k n) t ip w o q = absurd (miss (0 ∷ 1 ∷ []) 2 tt o)
-
-pub index-scalar : (s : Shape) (t : Option (List ℕ)) (ip w k : ℕ) → s ≡ Scalar k → (some (7 ∷ ip ∷ []) ≡ index-test ip w (shapeOf s t)) × (false ≡ is-unknown (shapeOf s t))
-unfolding index-test is-unknown shapeOf
-index-scalar s t ip w k e = (rw e, rw e)
 
 module _ (s : Shape) (t : Option (List ℕ)) (ip w k n : ℕ) (e : s ≡ Composite k n) where
   pub index-wide0 : w ≡ 0 → (none ≡ index-test ip w (shapeOf s t)) × (false ≡ is-unknown (shapeOf s t))

@@ -13,6 +13,9 @@ use Rattle.definition.specs.Effects.{takes, pushes, shape-of, set-local}
 use Rattle.definition.specs.Walk.{State as AnyState, height, after, height-test}
 use Rattle.shapes.specs.Model.{stateOf, valueOf}
 use Rattle.shapes.specs.declared.Value.{Value}
+use Rattle.shapes.specs.declared.Shape.{Shape}
+use Rattle.shapes.specs.declared.Shape.the-variants.{Unknown, Scalar, Composite}
+use Rattle.apply.specs.declared.Read.{Read}
 use Rattle.apply.specs.declared.Verdict.{Verdict}
 use Rattle.apply.specs.declared.Verdict.the-variants.{Passed}
 use Rattle.apply.specs.declared.Step.{Step}
@@ -22,6 +25,12 @@ use Rattle.apply.specs.Answers.{refusal, resultOf}
 -- an instruction's own tests, limit 6 among them
 abbrev pub own-tests : Chunk → ℕ → Instr → List AnyShape → Option (List ℕ)
 own-tests c ip i st = first (reading-test ip (reading c i) st) (other-tests c ip i st)
+
+-- a flat access of what is no composite: 7 for a scalar, and a mark for an unknown
+unfoldable pub Otherwise : ℕ → Shape → Read → Type 0
+Otherwise ip Unknown r = (refusal (r .verdict) ≡ none) × (r .blind ≡ true)
+Otherwise ip (Scalar k) r = (refusal (r .verdict) ≡ some (7 ∷ ip ∷ [])) × (r .blind ≡ false)
+Otherwise ip (Composite k n) r = Unit {0}
 
 -- what an instruction does where its tests pass: takes so many, pushes a value and numbers of kind 3 above it, and writes no local
 pub record Moves (c : Chunk) (i : Instr) (s : AnyState) (take : ℕ) (x : AnyShape) (m n : ℕ) : Type 0 where

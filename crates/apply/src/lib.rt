@@ -32,7 +32,7 @@ ghost use Rattle.bytecode.specs.Parts.{declared-shape, constant-of, instrOf, Ef
 ghost use Rattle.shapes.specs.Text.{Means};
 ghost use Rattle.shapes.specs.Model.{valueOf, plainOf, stateOf, stackOf, placesOf, shapeOf};
 ghost use Rattle.apply.specs.Answers.{refusal, is-none, resultOf, Of, Within, Examined};
-ghost use Rattle.apply.specs.Rules.{Rules, Quiet, Body, Stepped, passingOf, refusingOf, is-generic};
+ghost use Rattle.apply.specs.Rules.{Otherwise, Rules, Body, Stepped, passingOf, refusingOf, is-generic};
 
 // What an examination says: passed, or a refusal of the walk with the Rust's fields.
 pub enum Verdict {
@@ -275,22 +275,29 @@ pub struct Read {
     pub blind: bool,
 }
 
+// A flat access of what is no composite: of a scalar it is refused, and of an unknown it passes and is marked.
+fn not_composite(shape: Shape, ip: usize) -> Read
+    ensures { λ r. ⌜ Otherwise ip shape r ⌝ }
+{
+    let Shape::Scalar(_) = shape else {
+        return Read {
+            verdict: Verdict::Passed,
+            blind: true,
+        };
+    };
+    Read {
+        verdict: Verdict::ExpectedComposite(ip),
+        blind: false,
+    }
+}
+
 // A flat read from `at` to `end` of a composite.
 fn check_flat(v: Value, at: u64, end: u64, ip: usize) -> Read
     ensures { λ r. ⌜ (refusal (r .verdict) ≡ field-test ip at end (valueOf v)) × (r .blind ≡ is-unknown (valueOf v)) ⌝ }
 {
     let shape = v.shape;
     let Shape::Composite(_, size) = shape else {
-        let Shape::Scalar(_) = shape else {
-            return Read {
-                verdict: Verdict::Passed,
-                blind: true,
-            };
-        };
-        return Read {
-            verdict: Verdict::ExpectedComposite(ip),
-            blind: false,
-        };
+        return not_composite(shape, ip);
     };
     let n = size as u64;
     if end <= n {
@@ -409,16 +416,7 @@ fn check_flat_array_stride(v: Value, element: u32, ip: usize) -> Read
 {
     let shape = v.shape;
     let Shape::Composite(_, n) = shape else {
-        let Shape::Scalar(_) = shape else {
-            return Read {
-                verdict: Verdict::Passed,
-                blind: true,
-            };
-        };
-        return Read {
-            verdict: Verdict::ExpectedComposite(ip),
-            blind: false,
-        };
+        return not_composite(shape, ip);
     };
     if element == 0 {
         return Read {
