@@ -4,11 +4,11 @@ use mathlib.Core.Path.{_≡_, refl, sym, ap, ap₂, subst, _∙_}
 use mathlib.Core.Logic.{_⊎_, inl, inr, ⊎-elim}
 use mathlib.Core.List.{List, [], _∷_, _++_, append-assoc}
 use Prim.Native.Nat.{ℕ, zero, suc, _+_, _*_, _-_, _≤_, _<_}
-use native.Mathlib.Nat.{zero-add, le-antisymm, add-zero}
+use native.Mathlib.Nat.{zero-add, le-antisymm, add-zero, add-suc}
 use native.Mathlib.Decide.{decLt}
 use native.Mathlib.Numerals.{add-one}
 use native.Mathlib.Omega.{arith}
-use lib.ListN.{length, getD, set, take, drop, replicate, length-take, length-drop, List·getD-append}
+use lib.ListN.{length, getD, set, take, drop, replicate, length-take, length-drop, List·getD-append, List·getD-eq-default}
 use lib.Seq.{paste, paste-suc, getD-drop, getD-take, getD-append-add, length-take-le, length-paste, length-paste-head, drop-at, take-at, take-append-le, ext-getD}
 use Rattle.shapes.specs.Tabulated.{down, up}
 
@@ -75,6 +75,16 @@ up-set f g lo (suc n) zero v h e o =
 up-set f g lo (suc n) (suc i) v h e o =
     ap₂ (λ x xs. x ∷ xs) (o lo (λ q. omega arith))
     (up-set f g (suc lo) n i v (omega arith) (ap g (let q : suc lo + i ≡ lo + suc i = omega arith in q) ∙ e) (λ j n. o j (λ q. n (omega arith))))
+
+pub down-past : {A : Type 0} (f : ℕ → A) (h i : ℕ) (d : A) → h ≤ i → d ≡ getD (down f h) i d
+down-past f h i d l = sym (List·getD-eq-default (down f h) d (rw (down-length f h) l))
+
+-- a stretch on top that has one value
+pub down-filled : {A : Type 0} (f : ℕ → A) (v : A) (lo m : ℕ) → ((j : ℕ) → lo ≤ j → j < lo + m → f j ≡ v) → down f (lo + m) ≡ replicate m v ++ down f lo
+down-filled f v lo zero h = ap (λ (k : ℕ). down f k) (add-zero lo)
+down-filled f v lo (suc m) h =
+    ap (λ (k : ℕ). down f k) (add-suc lo m)
+    ∙ ap₂ (λ x xs. x ∷ xs) (h (lo + m) (omega arith) (omega arith)) (down-filled f v lo m (λ j l u. h j l (omega arith)))
 
 -- the same value everywhere
 pub up-replicate : {A : Type 0} (f : ℕ → A) (a : A) (lo n : ℕ) → ((j : ℕ) → lo ≤ j → j < lo + n → f j ≡ a) → up f lo n ≡ replicate n a

@@ -17,9 +17,9 @@ use Rattle.shapes.specs.declared.State.{State}
 use Rattle.shapes.specs.declared.Slot.{Slot}
 use Rattle.shapes.specs.declared.Shape.the-variants.{Unknown}
 use Rattle.shapes.specs.Tabulated.{down, up}
-use Rattle.shapes.specs.Model.{valueIn, valueAt, stateOf, stackOf, localsOf, pushed, popped, withLocal, placesOf, countOf, shapeOf, blank}
-use Rattle.shapes.specs.Slots.{Written}
-use Rattle.shapes.proofs.Lists.{lt-or-ge, down-same, down-drop, up-same, up-set, up-length, up-replicate, pasted-here, stretch-other}
+use Rattle.shapes.specs.Model.{valueIn, valueAt, stateOf, stackOf, localsOf, pushed, popped, replaced, withLocal, placesOf, countOf, shapeOf, blank}
+use Rattle.shapes.specs.Slots.{Written, Filled}
+use Rattle.shapes.proofs.Lists.{lt-or-ge, down-same, down-drop, down-filled, up-same, up-set, up-length, up-replicate, pasted-here, stretch-other}
 
 -- ── Counts and places ─────────────────────────────────────────────────────────────────────
 
@@ -105,6 +105,36 @@ push-law s r v n h l w =
 pub pop-law : (s : State) (n locals : ℕ) → n ≤ s .height
     → stateOf locals (record { height = s .height - n; slots = s .slots; places = s .places }) ≡ popped n (stateOf locals s)
 pop-law s n locals h = model (down-drop (valueAt (s .slots) (s .places)) n (s .height) h) refl
+
+pub fill-start : (s : State) (lo : ℕ) (v : AnyShape) → Filled s lo lo v s
+fill-start s lo v = record { height = refl; here = λ j l u. absurd (omega arith); there = λ j n. refl }
+
+pub fill-more : (s o r : State) (lo i : ℕ) (v : AnyShape) → lo ≤ i → Filled s lo i v o → Written o i v r → Filled s lo (i + 1) v r
+fill-more s o r lo i v h k w =
+    record {
+      height = w .height ∙ k .height;
+      here = λ j l u. ⊎-elim (λ (a : j < i). w .there j (λ e. omega arith) ∙ k .here j l a)
+          (λ (a : i ≤ j). ap (λ (z : ℕ). valueAt (r .slots) (r .places) z) (let e : j ≡ i = omega arith in e) ∙ w .here)
+          (lt-or-ge j i);
+      there = λ j n. w .there j (λ e. n (omega arith) (omega arith)) ∙ k .there j (λ l u. n l (omega arith));
+    }
+
+module _ (s m r : State) (t x y : ℕ) (v w : AnyShape) (ht : t ≤ s .height) (hh : s .height - t + x + y ≤ 64) (p : Filled s (s .height - t) (s .height - t + x) v m)
+    (q : Filled m (s .height - t + x) (s .height - t + x + y) w r) where
+  pub replace-law : (n : ℕ) → n ≤ 32 → stateOf n (record { height = s .height - t + x + y; slots = r .slots; places = r .places }) ≡ replaced t v x w y (stateOf n s)
+  replace-law n l =
+      let a : ℕ = s .height - t in
+      let f : ℕ → AnyShape = valueAt (s .slots) (s .places) in
+      let g : ℕ → AnyShape = valueAt (m .slots) (m .places) in
+      let k : ℕ → AnyShape = valueAt (r .slots) (r .places) in
+      model
+      (down-filled k w (a + x) y (λ j b c. q .here j b c)
+      ∙ ap (λ (z : List AnyShape). replicate y w ++ z)
+      (down-same k g (a + x) (λ j c. q .there j (λ b d. omega arith))
+      ∙ down-filled g v a x (λ j b c. p .here j b c)
+      ∙ ap (λ (z : List AnyShape). replicate x v ++ z)
+      (down-same g f a (λ j c. p .there j (λ b d. omega arith)) ∙ down-drop f t (s .height) ht)))
+      (up-same k f 64 n (λ j b c. q .there j (λ d e. omega arith) ∙ p .there j (λ d e. omega arith)))
 
 pub local-law : (s r : State) (i : ℕ) (v : AnyShape) (n : ℕ) → s .height ≤ 64 → i < n → n ≤ 32 → Written s (64 + i) v r → stateOf n r ≡ withLocal i v (stateOf n s)
 local-law s r i v n h l b w =

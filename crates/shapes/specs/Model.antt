@@ -2,8 +2,8 @@
 use Prim.Native.Nat.{ℕ, zero, suc, _*_}
 use mathlib.Core.Bool.{Bool, true, false}
 use mathlib.Core.Option.{Option, none, some}
-use mathlib.Core.List.{List, [], _∷_}
-use lib.ListN.{getD, set, take, drop}
+use mathlib.Core.List.{List, [], _∷_, _++_}
+use lib.ListN.{getD, set, take, drop, replicate}
 use lib.Dec.{leb}
 use Rattle.definition.specs.Basics.{choose}
 use Rattle.definition.specs.Shapes.{Shape as AnyShape, unknown, scalar, composite, join-all}
@@ -79,6 +79,10 @@ pushed v m = record { stack = v ∷ m .stack; locals = m .locals }
 -- the n top operands taken
 abbrev pub popped : ℕ → AnyState → AnyState
 popped n m = record { stack = drop n (m .stack); locals = m .locals }
+
+-- operands taken, then v pushed m times, and w n times above it
+abbrev pub replaced : ℕ → AnyShape → ℕ → AnyShape → ℕ → AnyState → AnyState
+replaced take v m w n s = record { stack = replicate n w ++ (replicate m v ++ drop take (s .stack)); locals = s .locals }
 
 -- local i set; one past the last is not written
 abbrev pub withLocal : ℕ → AnyShape → AnyState → AnyState

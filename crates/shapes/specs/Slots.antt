@@ -12,6 +12,12 @@ pub record Written (s : State) (i : ℕ) (v : AnyShape) (r : State) : Type 0 whe
   pub here : valueAt (r .slots) (r .places) i ≡ v
   pub there : (j : ℕ) → (j ≡ i → ⊥) → valueAt (r .slots) (r .places) j ≡ valueAt (s .slots) (s .places) j
 
+-- r is s with the value v in the slots from lo up to hi
+pub record Filled (s : State) (lo hi : ℕ) (v : AnyShape) (r : State) : Type 0 where
+  pub height : r .height ≡ s .height
+  pub here : (j : ℕ) → lo ≤ j → j < hi → valueAt (r .slots) (r .places) j ≡ v
+  pub there : (j : ℕ) → (lo ≤ j → j < hi → ⊥) → valueAt (r .slots) (r .places) j ≡ valueAt (s .slots) (s .places) j
+
 -- r is s with the joins with b in the slots from lo up to hi
 pub record Joined (s b : State) (lo hi : ℕ) (r : State) : Type 0 where
   pub height : r .height ≡ s .height

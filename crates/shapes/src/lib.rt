@@ -14,9 +14,9 @@ ghost use Rattle.definition.specs.Walk.{join-states};
 ghost use Rattle.definition.specs.Instructions.{Chunk};
 ghost use Rattle.definition.specs.Effects.{keep-if, places-within, shift, built-places, packed, nested-places, element-places, elements-alike};
 ghost use Rattle.value_layout.specs.Sizes.{Wide};
-ghost use Rattle.shapes.specs.Model.{shapeOf, plainOf, placesOf, countOf, valueOf, valueIn, valueAt, stackOf, localsOf, stateOf, pushed, popped, withLocal, widened};
+ghost use Rattle.shapes.specs.Model.{shapeOf, plainOf, placesOf, countOf, valueOf, valueIn, valueAt, stackOf, localsOf, stateOf, pushed, popped, replaced, withLocal, widened};
 ghost use Rattle.shapes.specs.Cover.{covers, covers-all, covers-state};
-ghost use Rattle.shapes.specs.Slots.{Written, Joined, Same};
+ghost use Rattle.shapes.specs.Slots.{Written, Filled, Joined, Same};
 ghost use Rattle.shapes.specs.Text.{Holds, packedOf, Means, bytes, Took};
 
 // ---- shapes
@@ -582,13 +582,17 @@ impl State {
         out
     }
 
-    // The operand under the i top ones.
+    // The operand under the i top ones; unknown where there is none.
     pub fn operand(self, i: usize) -> Value
-        requires { ⌜ (i < self .height) × (self .height ≤ 64) ⌝ }
+        requires { ⌜ self .height ≤ 64 ⌝ }
         ensures { λ r. ⌜ valueOf r ≡ getD (stackOf self) i unknown ⌝ }
     {
         let h = self.height;
-        self.read(h - 1 - i)
+        if i < h {
+            self.read(h - 1 - i)
+        } else {
+            unknown_value()
+        }
     }
 
     // The top operand once more.
@@ -598,6 +602,33 @@ impl State {
     {
         let v = self.operand(0);
         self.push(v)
+    }
+
+    // The slots from lo up to hi become v.
+    fn fill(self, lo: usize, hi: usize, v: Value) -> State
+        requires { ⌜ (lo ≤ hi) × (hi ≤ 96) ⌝ }
+        ensures { λ r. ⌜ Filled self lo hi (valueOf v) r ⌝ }
+    {
+        let mut out = self;
+        let mut i = lo;
+        while i < hi {
+            out = out.write(i, v);
+            i += 1;
+        }
+        out
+    }
+
+    // Takes operands, then pushes v so many times and above it so many of another.
+    pub fn replace(self, take: usize, v: Value, times: usize, above: Value, more: usize) -> State
+        requires { ⌜ (take ≤ self .height) × (self .height - take + times + more ≤ 64) ⌝ }
+        ensures { λ r. ⌜ (r .height ≡ self .height - take + times + more) × ((locals : ℕ) → locals ≤ 32 → stateOf locals r ≡ replaced take (valueOf v) times (valueOf above) more (stateOf locals self)) ⌝ }
+    {
+        let a = self.height - take;
+        let b = a + times;
+        let mid = self.fill(a, b, v);
+        let mut out = mid.fill(b, b + more, above);
+        out.height = b + more;
+        out
     }
 
     // The local i of so many; one past the last is unknown.

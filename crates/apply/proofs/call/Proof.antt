@@ -1,0 +1,32 @@
+use mathlib.Core.Path.{ap, _∙_}
+use Prim.Native.Nat.{ℕ}
+use lib.ListN.{getElem?}
+use Rattle.definition.specs.Effects.{shape-of, returned}
+use Rattle.bytecode.specs.Meaning.{sigsOf}
+use Rattle.shapes.specs.Model.{stateOf}
+use Rattle.apply.proofs.Calls.{call-rules}
+use borrow.Author.Needs.{needs}
+use Rattle.apply.proofs.call.Statement.{statement}
+use Rattle.apply.proofs.call.Tie as tie
+
+check-args-requires : tie.Need-check-args-requires
+check-args-requires c κs = search needs
+
+index-requires : tie.Need-index-requires
+index-requires c κs = search needs
+
+sig-return-requires : tie.Need-sig-return-requires
+sig-return-requires c κs = search needs
+
+wire-value-requires : tie.Need-wire-value-requires
+wire-value-requires c κs = search needs
+
+returns : tie.Need-returns
+returns c =
+    λ d l e. let a = c .before .before .before .before .before .args in
+    call-rules d (a .ip) (a .callee) (a .n) (stateOf l (a .s)) _ _ _ e (c .before .before .before .check-args .ensures) (c .wire-value .ensures ∙ c .before .sig-return .ensures ∙ ap (λ (k : ℕ). shape-of (returned (getElem? (sigsOf (a .t .now)) k))) (c .before .before .index .ensures))
+
+pub call-spec : {M : Type 1} → statement M
+call-spec =
+    tie.close
+    (tie.spec check-args-requires index-requires sig-return-requires wire-value-requires returns)

@@ -1,0 +1,23 @@
+use Rattle.apply.specs.Answers.{refusal}
+use Rattle.apply.proofs.Tests.{floor-breach, floor-none, floor-kept}
+use borrow.Author.Needs.{needs}
+use Rattle.apply.proofs.check_floor.Statement.{statement}
+use Rattle.apply.proofs.check_floor.Tie as tie
+
+returns : tie.Need-returns
+unfolding refusal
+returns c = floor-none _ _ _ _ (c .if1 .taken)
+
+add-if2 : tie.Need-add-if2
+add-if2 c = search needs
+
+returns-2 : tie.Need-returns-2
+unfolding refusal
+returns-2 c = floor-breach _ _ _ _ (c .before .if1 .left) (c .if2 .taken)
+
+returns-3 : tie.Need-returns-3
+unfolding refusal
+returns-3 c = floor-kept _ _ _ _ (c .before .if1 .left) (c .if2 .left)
+
+pub check-floor-spec : {M : Type 1} → statement M
+check-floor-spec = tie.close (tie.spec returns add-if2 returns-2 returns-3)

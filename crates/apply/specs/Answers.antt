@@ -1,0 +1,74 @@
+-- What an examination answers, and the chunk under check.
+use Prim.Native.Nat.{ℕ, _+_, _≤_, _<_}
+use mathlib.Core.Path.{_≡_}
+use mathlib.Core.Bool.{Bool, true, false}
+use mathlib.Core.Option.{Option, none, some}
+use mathlib.Core.List.{List, [], _∷_}
+use lib.ListN.{getD}
+use Rattle.definition.specs.Basics.{Result, pass}
+use Rattle.definition.specs.Instructions.{Chunk}
+use Rattle.definition.specs.Tests.{reading, is-blind}
+use Rattle.definition.specs.Walk.{State as AnyState, examine}
+use Rattle.value_layout.specs.Sizes.{Wide}
+use Rattle.bytecode.specs.Meaning.{chunkOf, localsAt, first-op, op-count, maxima-of}
+use Rattle.bytecode.specs.Parts.{instrOf}
+use Rattle.bytecode.specs.declared.Instr.{Instr}
+use Rattle.shapes.specs.declared.State.{State}
+use Rattle.shapes.specs.Model.{stateOf, stackOf}
+use Rattle.apply.specs.declared.Verdict.{Verdict}
+use Rattle.apply.specs.declared.Verdict.the-variants.{Passed, Limit, StackUnderflow, OffsetOutOfBounds, ExpectedComposite, NewCompositeSizeMismatch}
+use Rattle.apply.specs.declared.Verdict.the-variants.{TextFieldMismatch, BranchHeightMismatch, LoopNotNeutral, LoopFloorBreach, LocalTypeMismatch}
+use Rattle.apply.specs.declared.Verdict.the-variants.{CallArgMismatch, ArrayStrideMismatch, EnumBodySizeMismatch}
+use Rattle.apply.specs.declared.Step.{Step}
+use Rattle.apply.specs.declared.Ctx.{Ctx}
+
+-- 01's number and values of each refusal; the chunk's number is not among them yet
+unfoldable pub refusal : Verdict → Option (List ℕ)
+refusal Passed = none
+refusal (Limit ip limit) = some (2 ∷ ip ∷ limit ∷ [])
+refusal (StackUnderflow ip) = some (5 ∷ ip ∷ [])
+refusal (OffsetOutOfBounds ip offset need size) = some (6 ∷ ip ∷ offset ∷ need ∷ size ∷ [])
+refusal (ExpectedComposite ip) = some (7 ∷ ip ∷ [])
+refusal (NewCompositeSizeMismatch ip baked computed) = some (8 ∷ ip ∷ baked ∷ computed ∷ [])
+refusal (TextFieldMismatch ip offset) = some (9 ∷ ip ∷ offset ∷ [])
+refusal (BranchHeightMismatch ip then else) = some (10 ∷ ip ∷ then ∷ else ∷ [])
+refusal (LoopNotNeutral ip entry exit) = some (11 ∷ ip ∷ entry ∷ exit ∷ [])
+refusal (LoopFloorBreach ip floor available required) = some (12 ∷ ip ∷ floor ∷ available ∷ required ∷ [])
+refusal (LocalTypeMismatch ip slot) = some (13 ∷ ip ∷ slot ∷ [])
+refusal (CallArgMismatch ip callee arg) = some (14 ∷ ip ∷ callee ∷ arg ∷ [])
+refusal (ArrayStrideMismatch ip element array) = some (15 ∷ ip ∷ element ∷ array ∷ [])
+refusal (EnumBodySizeMismatch ip baked) = some (17 ∷ ip ∷ baked ∷ [])
+
+-- no refusal
+abbrev pub is-none : Option (List ℕ) → Bool
+is-none none = true
+is-none (some r) = false
+
+-- the state after, or the refusal
+abbrev pub resultOf : ℕ → Step → Result AnyState
+resultOf locals r = pass (refusal (r .verdict)) (stateOf locals (r .state))
+
+-- the numbers of chunk k of the tables
+pub record Of (t : List ℕ) (k : ℕ) (x : Ctx) : Type 0 where
+  pub low : k < 64
+  pub chunk : x .chunk ≡ k
+  pub locals : x .locals ≡ localsAt t k
+  pub first : x .first ≡ first-op t k
+  pub count : x .count ≡ op-count t k
+  pub within : x .first + x .count ≤ 4096
+  pub wide : Wide (x .widths) (chunkOf t k)
+  pub index : chunkOf t k .index-trap ≡ x .«index_trap»
+  pub host : chunkOf t k .host-trap ≡ x .«host_trap»
+
+-- each number of an instruction is within what its row admits
+pub record Within (i : Instr) : Type 0 where
+  pub code-low : i .code < 75
+  pub a-low : i .a ≤ getD (maxima-of (i .code)) 0 0
+  pub b-low : i .b ≤ getD (maxima-of (i .code)) 1 0
+  pub c-low : i .c ≤ getD (maxima-of (i .code)) 2 0
+
+-- The examination of an instruction of the chunk under check, and its mark, are the definition's. There are never more than 64 operands.
+pub record Examined (t : List ℕ) (x : Ctx) (i : Instr) (ip floor : ℕ) (s : State) (r : Step) : Type 0 where
+  pub result : resultOf (x .locals) r ≡ examine (chunkOf t (x .chunk)) ip floor (instrOf i) (stateOf (x .locals) s)
+  pub blind : r .blind ≡ is-blind (reading (chunkOf t (x .chunk)) (instrOf i)) (stackOf s)
+  pub low : r .state .height ≤ 64
