@@ -1,0 +1,411 @@
+// Reads a listing into the tables, line by line, each by the first of the line forms that takes it whole.
+ghost use mathlib.Core.Path.{_≡_};
+ghost use mathlib.Core.List.{List, _∷_, []};
+ghost use mathlib.Core.Option.{none, some};
+ghost use lib.ListN.{length, drop, getD};
+ghost use Prim.Native.Nat.{ℕ, _+_, _*_, _^_, _<_, _≤_};
+ghost use Rattle.definition.specs.Format.{Bytes, digits-from, is-digit, begins-digit, begins-number, number-at, strip};
+ghost use Rattle.listing.specs.Scan.{admitted, formats, shape-word};
+ghost use Rattle.definition.specs.Basics.{is-member};
+ghost use mathlib.Core.Bool.{false, _&&_};
+ghost use lib.Dec.{leb};
+ghost use Rattle.definition.specs.Read.{line-forms};
+ghost use Rattle.listing.specs.Find.{Entered, whole-line};
+ghost use Rattle.listing.specs.Rows.{Rowed, left, shapes-over, value-at, code-after};
+ghost use Rattle.listing.specs.Shape.{end-at, top-at, scalar-at, flat-at};
+ghost use Rattle.listing.specs.Num.{result, after, at-most};
+
+// The forms of all lines but ops as bytes, 16 to each, filled up with LF; specs/Scan.antt says what a byte stands for.
+const FORMATS: [u8; 176] = [40, 109, 111, 100, 117, 108, 101, 131, 131, 132, 130, 130, 129, 129, 10, 10, 40, 115, 108, 111, 116, 32, 115, 104, 97, 114, 101, 100, 41, 10, 10, 10, 40, 115, 108, 111, 116, 32, 112, 114, 105, 118, 97, 116, 101, 41, 10, 10, 40, 115, 104, 97, 114, 101, 100, 130, 128, 129, 41, 10, 10, 10, 10, 10, 40, 112, 114, 105, 118, 97, 116, 101, 129, 130, 41, 10, 10, 10, 10, 10, 40, 101, 110, 117, 109, 130, 41, 10, 10, 10, 10, 10, 10, 10, 10, 10, 40, 110, 97, 116, 105, 118, 101, 140, 41, 10, 10, 10, 10, 10, 10, 10, 40, 115, 105, 103, 140, 140, 141, 41, 10, 10, 10, 10, 10, 10, 10, 10, 40, 99, 104, 117, 110, 107, 129, 10, 10, 10, 10, 10, 10, 10, 10, 10, 40, 99, 111, 110, 115, 116, 133, 41, 10, 10, 10, 10, 10, 10, 10, 10, 41, 10, 10, 10, 10, 10, 10, 10, 10, 10, 10, 10, 10, 10, 10, 10];
+
+// A number, or a shape's word, and where it ends.
+pub enum Num {
+    Read(u64, usize),
+    Bad,
+}
+
+fn format_at(j: usize) -> u8
+    requires { ⌜ j < 176 ⌝ }
+    ensures { λ r. ⌜ r ≡ getD formats j 0 ⌝ }
+{
+    FORMATS[j]
+}
+
+fn wide(x: u8) -> u64
+    ensures { λ r. ⌜ r ≡ x ⌝ }
+{
+    x as u64
+}
+
+fn digit(b: u8) -> bool
+    ensures { λ r. ⌜ r ≡ is-digit b ⌝ }
+{
+    if b < 48 {
+        return false;
+    }
+    b <= 57
+}
+
+fn digit_at(s: &[u8], i: usize) -> bool
+    ensures { λ r. ⌜ r ≡ begins-digit (drop i (now (s .entry))) ⌝ }
+{
+    if i < s.len() {
+        return digit(s[i]);
+    }
+    false
+}
+
+// A digit comes first, and after a first 0 no other.
+fn number_begins(s: &[u8], i: usize) -> bool
+    ensures { λ r. ⌜ r ≡ begins-number (drop i (now (s .entry))) ⌝ }
+{
+    if s.len() <= i {
+        return false;
+    }
+    let b = s[i];
+    if b == 48 {
+        return !digit_at(s, i + 1);
+    }
+    digit(b)
+}
+
+// n and its end, if n has at most 32 bits.
+fn fit(n: u64, i: usize) -> Num
+    ensures { λ r. ⌜ ((t : Bytes) → result t r ≡ at-most 4294967295 (n, drop i t)) ⌝ }
+{
+    if n <= 4294967295 {
+        Num::Read(n, i)
+    } else {
+        Num::Bad
+    }
+}
+
+// The number that the digits from `at` on give, if it has at most 32 bits, and where they end.
+fn digits(s: &[u8], at: usize) -> Num
+    requires { ⌜ at ≤ length (now s) ⌝ }
+    ensures { λ r. ⌜ result (now (s .entry)) r ≡ at-most 4294967295 (digits-from 0 (drop at (now (s .entry)))) ⌝ }
+{
+    let mut n: u64 = 0;
+    let mut i = at;
+    while i < s.len() {
+        let b = wide(s[i]);
+        if b < 48 {
+            return fit(n, i);
+        }
+        if 57 < b {
+            return fit(n, i);
+        }
+        if 4294967295 < n {
+            return Num::Bad;
+        }
+        n = n * 10 + (b - 48);
+        i += 1;
+    }
+    fit(n, i)
+}
+
+// The numbers that a code admits.
+fn admits(c: u8, n: u64) -> bool
+    ensures { λ r. ⌜ r ≡ admitted c n ⌝ }
+{
+    match c {
+        131 => is_width(n),
+        132 => is_address(n),
+        133 => is_constant(n),
+        128 => n <= 255,
+        129 => n <= 65535,
+        130 => n <= 4294967295,
+        134 => n <= 7,
+        _ => n <= 3,
+    }
+}
+
+fn is_width(n: u64) -> bool
+    ensures { λ r. ⌜ r ≡ is-member n (1 ∷ 2 ∷ 4 ∷ 8 ∷ []) ⌝ }
+{
+    match n {
+        1 => true,
+        2 => true,
+        4 => true,
+        8 => true,
+        _ => false,
+    }
+}
+
+fn is_address(n: u64) -> bool
+    ensures { λ r. ⌜ r ≡ is-member n (3 ∷ 4 ∷ 5 ∷ 6 ∷ []) ⌝ }
+{
+    match n {
+        3 => true,
+        4 => true,
+        5 => true,
+        6 => true,
+        _ => false,
+    }
+}
+
+fn is_constant(n: u64) -> bool
+    ensures { λ r. ⌜ r ≡ is-member n (0 ∷ 1 ∷ 2 ∷ 3 ∷ 4 ∷ 5 ∷ 6 ∷ 255 ∷ []) ⌝ }
+{
+    if n <= 6 {
+        return true;
+    }
+    n == 255
+}
+
+// One space and a number that a code admits.
+fn number(s: &[u8], i: usize, c: u8) -> Num
+    ensures { λ r. ⌜ result (now (s .entry)) r ≡ number-at (admitted c) (drop i (now (s .entry))) ⌝ }
+{
+    if s.len() <= i {
+        return Num::Bad;
+    }
+    if s[i] != 32 {
+        return Num::Bad;
+    }
+    let at = i + 1;
+    if !number_begins(s, at) {
+        return Num::Bad;
+    }
+    let Num::Read(v, next) = digits(s, at) else {
+        return Num::Bad;
+    };
+    if admits(c, v) {
+        return Num::Read(v, next);
+    }
+    Num::Bad
+}
+
+// The place after a text.
+fn text(s: &[u8], at: usize, t: &[u8]) -> Num
+    ensures { λ r. ⌜ after (now (s .entry)) r ≡ strip (now (t .entry)) (drop at (now (s .entry))) ⌝ }
+{
+    let mut i = at;
+    let mut j = 0;
+    while j < t.len() {
+        if s.len() <= i {
+            return Num::Bad;
+        }
+        if s[i] != t[j] {
+            return Num::Bad;
+        }
+        i += 1;
+        j += 1;
+    }
+    Num::Read(0, i)
+}
+
+// The closing parenthesis after the word v.
+fn closed(s: &[u8], i: usize, v: u64) -> Num
+    ensures { λ r. ⌜ result (now (s .entry)) r ≡ end-at v (drop i (now (s .entry))) ⌝ }
+{
+    let Num::Read(_, e) = text(s, i, b")") else {
+        return Num::Bad;
+    };
+    Num::Read(v, e)
+}
+
+fn shape_top(s: &[u8], i: usize) -> Num
+    ensures { λ r. ⌜ result (now (s .entry)) r ≡ top-at (drop i (now (s .entry))) ⌝ }
+{
+    let Num::Read(_, e) = text(s, i, b" (top)") else {
+        return Num::Bad;
+    };
+    Num::Read(0, e)
+}
+
+fn shape_scalar(s: &[u8], i: usize) -> Num
+    ensures { λ r. ⌜ result (now (s .entry)) r ≡ scalar-at (drop i (now (s .entry))) ⌝ }
+{
+    let Num::Read(_, a) = text(s, i, b" (scalar") else {
+        return Num::Bad;
+    };
+    let Num::Read(k, b) = number(s, a, 128) else {
+        return Num::Bad;
+    };
+    closed(s, b, 1 + 4 * k)
+}
+
+fn shape_flat(s: &[u8], i: usize) -> Num
+    ensures { λ r. ⌜ result (now (s .entry)) r ≡ flat-at (drop i (now (s .entry))) ⌝ }
+{
+    let Num::Read(_, a) = text(s, i, b" (flat") else {
+        return Num::Bad;
+    };
+    let Num::Read(k, b) = number(s, a, 128) else {
+        return Num::Bad;
+    };
+    let Num::Read(n, d) = number(s, b, 130) else {
+        return Num::Bad;
+    };
+    closed(s, d, 2 + 4 * k + 1024 * n)
+}
+
+// A shape with the space before it, as its word.
+fn shape(s: &[u8], i: usize) -> Num
+    ensures { λ r. ⌜ result (now (s .entry)) r ≡ shape-word (drop i (now (s .entry))) ⌝ }
+{
+    if let Num::Read(v, e) = shape_top(s, i) {
+        return Num::Read(v, e);
+    }
+    if let Num::Read(v, e) = shape_scalar(s, i) {
+        return Num::Read(v, e);
+    }
+    shape_flat(s, i)
+}
+
+// The values of a line, from place 1 on, how many there are (19 for more than 18), and where they end.
+pub struct Row {
+    pub ok: bool,
+    pub next: usize,
+    pub count: usize,
+    pub vals: [u64; 19],
+}
+
+fn no_row() -> Row
+    ensures { λ r. ⌜ r .ok ≡ false ⌝ }
+{
+    Row {
+        ok: false,
+        next: 0,
+        count: 0,
+        vals: [0u64; 19],
+    }
+}
+
+// Whether the code is that of shapes, and no space comes next.
+fn over(s: &[u8], i: usize, c: u8) -> bool
+    ensures { λ r. ⌜ r ≡ shapes-over c (drop i (now (s .entry))) ⌝ }
+{
+    if c != 141 {
+        return false;
+    }
+    if i < s.len() {
+        return s[i] != 32;
+    }
+    true
+}
+
+// A shape's word, or a number that the code admits.
+fn value(s: &[u8], i: usize, c: u8) -> Num
+    ensures { λ r. ⌜ result (now (s .entry)) r ≡ value-at c (drop i (now (s .entry))) ⌝ }
+{
+    if c == 140 {
+        return shape(s, i);
+    }
+    if c == 141 {
+        return shape(s, i);
+    }
+    number(s, i, c)
+}
+
+// The place in the formats after a value: shapes stay where they are.
+fn code_after(j: usize, c: u8) -> usize
+    requires { ⌜ j < 176 ⌝ }
+    ensures { λ r. ⌜ r ≡ code-after j c ⌝ }
+{
+    if c == 141 { j } else { j + 1 }
+}
+
+// The line s by form f, from its beginning.
+fn scan(s: &[u8], f: usize) -> Row
+    requires { ⌜ (f < 11) × (length (now s) ≤ 65536) ⌝ }
+    ensures { λ r. ⌜ Rowed (left (now (s .entry)) 0 (f * 16)) (now (s .entry)) [] r ⌝ }
+{
+    let mut vals = [0u64; 19];
+    let mut n: usize = 0;
+    let mut i: usize = 0;
+    let mut j = f * 16;
+    while j < 176 {
+        let c = format_at(j);
+        if c == 10 {
+            return Row {
+                ok: true,
+                next: i,
+                count: n,
+                vals: vals,
+            };
+        }
+        if c < 128 {
+            if s.len() <= i {
+                return no_row();
+            }
+            if s[i] != c {
+                return no_row();
+            }
+            i += 1;
+            j += 1;
+        } else {
+            if over(s, i, c) {
+                j += 1;
+            } else {
+                let Num::Read(v, next) = value(s, i, c) else {
+                    return no_row();
+                };
+                j = code_after(j, c);
+                i = next;
+                if n < 18 {
+                    vals[n + 1] = v;
+                    n += 1;
+                } else {
+                    n = 19;
+                }
+            }
+        }
+    }
+    Row {
+        ok: true,
+        next: i,
+        count: n,
+        vals: vals,
+    }
+}
+
+// A line: the number of its form (86 where it has none), how many values it has (19 for more than 18), and the values from place 1 on.
+pub struct Entry {
+    pub form: usize,
+    pub count: usize,
+    pub vals: [u64; 19],
+}
+
+fn no_entry() -> Entry
+    ensures { λ r. ⌜ r .form ≡ 86 ⌝ }
+{
+    Entry {
+        form: 86,
+        count: 0,
+        vals: [0u64; 19],
+    }
+}
+
+// Whether a form was read, and to the end of the line.
+fn whole(ok: bool, next: usize, end: usize) -> bool
+    ensures { λ r. ⌜ r ≡ (ok && leb end next) ⌝ }
+{
+    if ok {
+        return end <= next;
+    }
+    false
+}
+
+// A line that is no op, by the first form that takes it whole.
+fn line_entry(s: &[u8]) -> Entry
+    requires { ⌜ length (now s) ≤ 65536 ⌝ }
+    ensures { λ r. ⌜ Entered (whole-line line-forms (now (s .entry))) r ⌝ }
+{
+    let mut f = 0;
+    while f < 11 {
+        let r = scan(s, f);
+        let n = r.count;
+        let vals = r.vals;
+        if whole(r.ok, r.next, s.len()) {
+            return Entry {
+                form: f,
+                count: n,
+                vals: vals,
+            };
+        }
+        f += 1;
+    }
+    no_entry()
+}
