@@ -5,3 +5,4 @@ pub mod Num
 pub mod Shape
 pub mod Rows
 pub mod Find
+pub mod OpLines
