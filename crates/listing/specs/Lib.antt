@@ -6,3 +6,4 @@ pub mod Shape
 pub mod Rows
 pub mod Find
 pub mod OpLines
+pub mod OpRead
