@@ -123,84 +123,80 @@ unfolding joined _and-then_
 joined-both a b none = refl
 joined-both a b (some q) = rw append-assoc
 
-module _ (r : ℕ) (low : r < 75) where
-  abbrev ms : List ℕ
-  ms = maxima-of r
+maxima-short : (r : ℕ) → r < 75 → length (maxima-of r) ≤ 3
+unfolding maxima-of
+maxima-short r low = let q = row-of r low in omega (arith, ap length (q .maxima), q .short)
 
-  maxima-short : length (maxima-of r) ≤ 3
-  unfolding maxima-of
-  maxima-short = let q = row-of r low in omega (arith, ap length (q .maxima), q .short)
+module _ (r : ℕ) (s : Bytes) (at : ℕ) where
+  -- j operands are read, up to i
+  pub record Read-to (i j : ℕ) (vals : List ℕ) : Type 0 where
+    pub vs : List ℕ
+    pub is : numbers-at (maxima-of r) (drop at s) ≡ joined vs (numbers-at (drop j (maxima-of r)) (drop i s))
+    pub stored : Stored vals j vs
 
-  module _ (s : Bytes) (at : ℕ) where
-    -- j operands are read, up to i
-    pub record Read-to (i j : ℕ) (vals : List ℕ) : Type 0 where
-      pub vs : List ℕ
-      pub is : numbers-at (maxima-of r) (drop at s) ≡ joined vs (numbers-at (drop j (maxima-of r)) (drop i s))
-      pub stored : Stored vals j vs
+  pub read-start : (vals : List ℕ) → Stored vals 0 [] → Read-to at 0 vals
+  read-start vals st = record { vs = []; is = sym (joined-none (numbers-at (maxima-of r) (drop at s))); stored = st }
 
-    pub read-start : (vals : List ℕ) → Stored vals 0 [] → Read-to at 0 vals
-    read-start vals st = record { vs = []; is = sym (joined-none (numbers-at (maxima-of r) (drop at s))); stored = st }
+  module _ (low : r < 75) (i j : ℕ) (vals : List ℕ) (so : Read-to i j vals) where
+    ended : drop j (maxima-of r) ≡ [] → (w : Row) → w .ok ≡ true → w .next ≡ i → w .count ≡ j → w .vals ≡ vals
+        → Rowed (numbers-at (maxima-of r) (drop at s)) s [] w
+    unfolding numbers-at joined _and-then_
+    ended e w o p q d =
+        record {
+          bad = λ x. absurd (subst T (sym o ∙ x) tt);
+          good =
+              λ x. (
+                so .vs,
+                so .is ∙ ap (λ (l : List ℕ). joined (so .vs) (numbers-at l (drop i s))) e ∙ (rw (append-nil (so .vs), p)),
+                rw (d, q) (so .stored),
+              );
+        }
 
-    module _ (i j : ℕ) (vals : List ℕ) (so : Read-to i j vals) where
-      ended : drop j (maxima-of r) ≡ [] → (w : Row) → w .ok ≡ true → w .next ≡ i → w .count ≡ j → w .vals ≡ vals
-          → Rowed (numbers-at (maxima-of r) (drop at s)) s [] w
-      unfolding numbers-at joined _and-then_
-      ended e w o p q d =
-          record {
-            bad = λ x. absurd (subst T (sym o ∙ x) tt);
-            good =
-                λ x. (
-                  so .vs,
-                  so .is ∙ ap (λ (l : List ℕ). joined (so .vs) (numbers-at l (drop i s))) e ∙ (rw (append-nil (so .vs), p)),
-                  rw (d, q) (so .stored),
-                );
-          }
+    pub no-more : getD (maxima-of r) j 0 ≡ 0 → (w : Row) → w .ok ≡ true → w .next ≡ i → w .count ≡ j → w .vals ≡ vals
+        → Rowed (numbers-at (maxima-of r) (drop at s)) s [] w
+    unfolding good
+    no-more e = ended (zero-past (maxima-of r) j (and-l (no-zero (maxima-of r)) (known-all (maxima-of r)) (at-each 75 good all-good r low)) e)
 
-      pub no-more : getD (maxima-of r) j 0 ≡ 0 → (w : Row) → w .ok ≡ true → w .next ≡ i → w .count ≡ j → w .vals ≡ vals
-          → Rowed (numbers-at (maxima-of r) (drop at s)) s [] w
+    pub all-read : 3 ≤ j → (w : Row) → w .ok ≡ true → w .next ≡ i → w .count ≡ j → w .vals ≡ vals
+        → Rowed (numbers-at (maxima-of r) (drop at s)) s [] w
+    all-read h = ended (drop-of-length-le (maxima-of r) {i = j} (omega (arith, maxima-short r low)))
+
+    module _ (n : getD (maxima-of r) j 0 ≡ 0 → ⊥) where
+      here : j < length (maxima-of r)
+      here = inside (maxima-of r) j n
+
+      by-max : number-at (admitted (max-code (getD (maxima-of r) j 0))) (drop i s) ≡ number-at (λ k. leb k (getD (maxima-of r) j 0)) (drop i s)
       unfolding good
-      no-more e = ended (zero-past (maxima-of r) j (and-l (no-zero (maxima-of r)) (known-all (maxima-of r)) (at-each 75 good all-good r low)) e)
+      by-max =
+          max-number (getD (maxima-of r) j 0) (drop i s)
+          (known-at (maxima-of r) j (and-r (no-zero (maxima-of r)) (known-all (maxima-of r)) (at-each 75 good all-good r low)) here)
 
-      pub all-read : 3 ≤ j → (w : Row) → w .ok ≡ true → w .next ≡ i → w .count ≡ j → w .vals ≡ vals
+      head-is : numbers-at (drop j (maxima-of r)) (drop i s)
+          ≡ (number-at (admitted (max-code (getD (maxima-of r) j 0))) (drop i s) and-then λ x. joined (x .0 ∷ []) (numbers-at (drop (suc j) (maxima-of r)) (x .1)))
+      unfolding numbers-at joined
+      head-is = rw (drop-cons (maxima-of r) j 0 here, by-max)
+
+      pub operand-bad : (w : Row) → w .ok ≡ false → none ≡ number-at (admitted (max-code (getD (maxima-of r) j 0))) (drop i s)
           → Rowed (numbers-at (maxima-of r) (drop at s)) s [] w
-      all-read h = ended (drop-of-length-le (maxima-of r) {i = j} (omega (arith, maxima-short)))
+      unfolding joined _and-then_
+      operand-bad w o e =
+          let z : numbers-at (drop j (maxima-of r)) (drop i s) ≡ none = head-is ∙ (rw (← e)) in
+          row-bad _ s [] w o (so .is ∙ ap (joined (so .vs)) z)
 
-      module _ (n : getD (maxima-of r) j 0 ≡ 0 → ⊥) where
-        here : j < length (maxima-of r)
-        here = inside (maxima-of r) j n
-
-        by-max : number-at (admitted (max-code (getD (maxima-of r) j 0))) (drop i s) ≡ number-at (λ k. leb k (getD (maxima-of r) j 0)) (drop i s)
-        unfolding good
-        by-max =
-            max-number (getD (maxima-of r) j 0) (drop i s)
-            (known-at (maxima-of r) j (and-r (no-zero (maxima-of r)) (known-all (maxima-of r)) (at-each 75 good all-good r low)) here)
-
-        head-is : numbers-at (drop j (maxima-of r)) (drop i s)
-            ≡ (number-at (admitted (max-code (getD (maxima-of r) j 0))) (drop i s) and-then λ x. joined (x .0 ∷ []) (numbers-at (drop (suc j) (maxima-of r)) (x .1)))
-        unfolding numbers-at joined
-        head-is = rw (drop-cons (maxima-of r) j 0 here, by-max)
-
-        pub operand-bad : (w : Row) → w .ok ≡ false → none ≡ number-at (admitted (max-code (getD (maxima-of r) j 0))) (drop i s)
-            → Rowed (numbers-at (maxima-of r) (drop at s)) s [] w
-        unfolding joined _and-then_
-        operand-bad w o e =
-            let z : numbers-at (drop j (maxima-of r)) (drop i s) ≡ none = head-is ∙ (rw (← e)) in
-            row-bad _ s [] w o (so .is ∙ ap (joined (so .vs)) z)
-
-        pub operand-read : j < 18 → (v next : ℕ) → some (v, drop next s) ≡ number-at (admitted (max-code (getD (maxima-of r) j 0))) (drop i s)
-            → Read-to next (j + 1) (set vals (j + 1) v)
-        unfolding _and-then_
-        operand-read l v next e =
-            record {
-              vs = so .vs ++ (v ∷ []);
-              is =
-                  so .is
-                  ∙ ap (joined (so .vs))
-                  (let z : numbers-at (drop j (maxima-of r)) (drop i s) ≡ joined (v ∷ []) (numbers-at (drop (j + 1) (maxima-of r)) (drop next s)) =
-                  head-is ∙ (rw (← e, add-one j)) in z)
-                  ∙ sym (joined-both (so .vs) (v ∷ []) (numbers-at (drop (j + 1) (maxima-of r)) (drop next s)));
-              stored = put-kept vals j (so .vs) (so .stored) v l;
-            }
+      pub operand-read : j < 18 → (v next : ℕ) → some (v, drop next s) ≡ number-at (admitted (max-code (getD (maxima-of r) j 0))) (drop i s)
+          → Read-to next (j + 1) (set vals (j + 1) v)
+      unfolding _and-then_
+      operand-read l v next e =
+          record {
+            vs = so .vs ++ (v ∷ []);
+            is =
+                so .is
+                ∙ ap (joined (so .vs))
+                (let z : numbers-at (drop j (maxima-of r)) (drop i s) ≡ joined (v ∷ []) (numbers-at (drop (j + 1) (maxima-of r)) (drop next s)) =
+                head-is ∙ (rw (← e, add-one j)) in z)
+                ∙ sym (joined-both (so .vs) (v ∷ []) (numbers-at (drop (j + 1) (maxima-of r)) (drop next s)));
+            stored = put-kept vals j (so .vs) (so .stored) v l;
+          }
 
 -- ── The end of the line ───────────────────────────────────────────────────────────────────
 

@@ -1,15 +1,21 @@
 // Reads a listing into the tables, line by line, each by the first of the line forms that takes it whole.
+use bytecode::ops;
+use bytecode::ops::Found;
 ghost use mathlib.Core.Path.{_≡_};
 ghost use mathlib.Core.List.{List, _∷_, []};
 ghost use mathlib.Core.Option.{none, some};
-ghost use lib.ListN.{length, drop, getD};
-ghost use Prim.Native.Nat.{ℕ, _+_, _*_, _^_, _<_, _≤_};
-ghost use Rattle.definition.specs.Format.{Bytes, digits-from, is-digit, begins-digit, begins-number, number-at, strip};
-ghost use Rattle.listing.specs.Scan.{admitted, formats, shape-word};
+ghost use lib.ListN.{length, take, drop, getD};
+ghost use Prim.Native.Nat.{ℕ, _+_, _*_, _^_, _-_, _<_, _≤_};
+ghost use Rattle.definition.specs.Format.{Bytes, bytes, digits-from, is-digit, begins-digit, begins-number, number-at, numbers-at, strip};
+ghost use Rattle.definition.specs.Shapes.{same-places};
+ghost use Rattle.definition.specs.Ops.{ops as op-rows};
+ghost use Rattle.bytecode.specs.Meaning.{maxima-of};
+ghost use Rattle.listing.specs.Scan.{admitted, formats, shape-word, max-code};
 ghost use Rattle.definition.specs.Basics.{is-member};
 ghost use mathlib.Core.Bool.{false, _&&_};
 ghost use lib.Dec.{leb};
-ghost use Rattle.definition.specs.Read.{line-forms};
+ghost use Rattle.definition.specs.Read.{line-forms, op-forms, read-line};
+ghost use Rattle.listing.specs.OpLines.{name-ends, name-of};
 ghost use Rattle.listing.specs.Find.{Entered, whole-line};
 ghost use Rattle.listing.specs.Rows.{Rowed, left, shapes-over, value-at, code-after};
 ghost use Rattle.listing.specs.Shape.{end-at, top-at, scalar-at, flat-at};
@@ -408,4 +414,154 @@ fn line_entry(s: &[u8]) -> Entry
         f += 1;
     }
     no_entry()
+}
+
+// Whether an op's name ends at i: before `)`, before a space and a digit, or with the line.
+fn name_ends(s: &[u8], i: usize) -> bool
+    ensures { λ r. ⌜ r ≡ name-ends (drop i (now (s .entry))) ⌝ }
+{
+    if s.len() <= i {
+        return true;
+    }
+    let b = s[i];
+    if b == 41 {
+        return true;
+    }
+    if b == 32 {
+        return digit_at(s, i + 1);
+    }
+    false
+}
+
+// Where the name from `at` on ends.
+fn name_end(s: &[u8], at: usize) -> usize
+    requires { ⌜ at ≤ length (now s) ⌝ }
+    ensures { λ r. ⌜ (at ≤ r) × (r ≤ length (now (s .entry))) × (take (r - at) (drop at (now (s .entry))) ≡ name-of (drop at (now (s .entry)))) ⌝ }
+{
+    let mut i = at;
+    while i < s.len() {
+        if name_ends(s, i) {
+            return i;
+        }
+        i += 1;
+    }
+    i
+}
+
+// The largest number that operand j of a row may be; 0 where there is none.
+fn maximum(row: usize, j: usize) -> u32
+    requires { ⌜ (row < 75) × (j < 3) ⌝ }
+    ensures { λ r. ⌜ r ≡ getD (maxima-of row) j 0 ⌝ }
+{
+    if j == 0 {
+        return ops::maximum_a(row);
+    }
+    if j == 1 {
+        return ops::maximum_b(row);
+    }
+    ops::maximum_c(row)
+}
+
+// The code of the numbers up to a maximum.
+fn maximum_code(m: u32) -> u8
+    ensures { λ r. ⌜ r ≡ max-code m ⌝ }
+{
+    if m == 255 {
+        return 128;
+    }
+    if m == 65535 {
+        return 129;
+    }
+    if m == 4294967295 {
+        return 130;
+    }
+    if m == 7 {
+        return 134;
+    }
+    135
+}
+
+// The operands of a row, from `at` on.
+fn operands(s: &[u8], at: usize, row: usize) -> Row
+    requires { ⌜ row < 75 ⌝ }
+    ensures { λ r. ⌜ Rowed (numbers-at (maxima-of row) (drop at (now (s .entry)))) (now (s .entry)) [] r ⌝ }
+{
+    let mut vals = [0u64; 19];
+    let mut i = at;
+    let mut j = 0;
+    while j < 3 {
+        let m = maximum(row, j);
+        if m == 0 {
+            return Row {
+                ok: true,
+                next: i,
+                count: j,
+                vals: vals,
+            };
+        }
+        let c = maximum_code(m);
+        let Num::Read(v, next) = number(s, i, c) else {
+            return no_row();
+        };
+        vals[j + 1] = v;
+        i = next;
+        j += 1;
+    }
+    Row {
+        ok: true,
+        next: i,
+        count: j,
+        vals: vals,
+    }
+}
+
+// Whether the line ends with `)` at i, and what stands before it was read.
+fn closes(s: &[u8], i: usize, ok: bool) -> bool
+    ensures { λ r. ⌜ r ≡ (ok && same-places (drop i (now (s .entry))) (41 ∷ [])) ⌝ }
+{
+    if !ok {
+        return false;
+    }
+    if s.len() <= i {
+        return false;
+    }
+    if s[i] != 41 {
+        return false;
+    }
+    s.len() == i + 1
+}
+
+// A line that begins as an op, by the row of its name.
+fn op_entry(s: &[u8]) -> Entry
+    requires { ⌜ (strip (bytes "(op ") (now s) ≡ some (drop 4 (now s))) × (4 ≤ length (now s)) ⌝ }
+    ensures { λ r. ⌜ Entered (whole-line (op-forms 0 op-rows) (now (s .entry))) r ⌝ }
+{
+    let at = 4;
+    let e = name_end(s, at);
+    let name = &s[at..e];
+    let Found::Row(row) = ops::find(name) else {
+        return no_entry();
+    };
+    let r = operands(s, e, row);
+    let n = r.count;
+    let vals = r.vals;
+    if closes(s, r.next, r.ok) {
+        return Entry {
+            form: 11 + row,
+            count: n,
+            vals: vals,
+        };
+    }
+    no_entry()
+}
+
+// The line that the bytes say.
+fn read_entry(s: &[u8]) -> Entry
+    requires { ⌜ length (now s) ≤ 65536 ⌝ }
+    ensures { λ r. ⌜ Entered (read-line (now (s .entry))) r ⌝ }
+{
+    let Num::Read(_, _) = text(s, 0, b"(op ") else {
+        return line_entry(s);
+    };
+    op_entry(s)
 }
