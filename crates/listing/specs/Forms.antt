@@ -84,6 +84,8 @@ pub record Fits (l : Line) (f : ℕ) (vs : List ℕ) : Type 0 where
   pub follows : (p : ℕ) → follow p l ≡ provided (may-stand p f vs) (place-after (form-kind f) p)
   pub limited : (m : Module) → kind l < 10 → limits m l ≡ first (unless (ltb (getD (counts m) (form-kind f) 0) (cap (form-kind f))) (2 ∷ 0 ∷ 0 ∷ 2 ∷ [])) (own-limit f vs)
   pub unlimited : (m : Module) → kind l ≡ 10 → limits m l ≡ none
+  pub short : f < 11 → (f ≡ 7 → ⊥) → length vs ≤ 18
+  pub single : f ≡ 8 → length vs ≡ 1
 
 -- ── Every form ────────────────────────────────────────────────────────────────────────────
 
@@ -120,26 +122,26 @@ sig-limit o a b ps =
 pub line-fits : All-right 0 line-forms
 unfolding line-forms form Known known-max is-member ascii bytes admitted among-code choose item apply as-words kind form-kind words row-words head-word tail-words header-words slot-words shared-words private-words one-word native-words sig-words chunk-words follow may-stand place-after unequal limits has-room counts cap own-limit first unless
 line-fits = (
-  record { known = (tt, (λ n. refl, λ b. refl, (λ n. refl, λ b. refl, (λ n. refl, λ b. refl, (tt, (tt, (tt, (tt, tt)))))))); fits = λ v. record { table = refl; row = λ m b. refl; follows = λ p. refl; limited = λ m b. refl; unlimited = λ m e. absurd (omega arith) } },
+  record { known = (tt, (λ n. refl, λ b. refl, (λ n. refl, λ b. refl, (λ n. refl, λ b. refl, (tt, (tt, (tt, (tt, tt)))))))); fits = λ v. record { table = refl; row = λ m b. refl; follows = λ p. refl; limited = λ m b. refl; unlimited = λ m e. absurd (omega arith); short = λ a b. omega arith; single = λ e. absurd (omega arith) } },
   (
-    record { known = (tt, tt); fits = λ v. record { table = refl; row = λ m b. refl; follows = λ p. rw (true-and (within 1 1 p)); limited = λ m b. sym (no-limit _); unlimited = λ m e. absurd (omega arith) } },
+    record { known = (tt, tt); fits = λ v. record { table = refl; row = λ m b. refl; follows = λ p. rw (true-and (within 1 1 p)); limited = λ m b. sym (no-limit _); unlimited = λ m e. absurd (omega arith); short = λ a b. omega arith; single = λ e. absurd (omega arith) } },
     (
-      record { known = (tt, tt); fits = λ v. record { table = refl; row = λ m b. refl; follows = λ p. rw (true-and (within 1 1 p)); limited = λ m b. sym (no-limit _); unlimited = λ m e. absurd (omega arith) } },
+      record { known = (tt, tt); fits = λ v. record { table = refl; row = λ m b. refl; follows = λ p. rw (true-and (within 1 1 p)); limited = λ m b. sym (no-limit _); unlimited = λ m e. absurd (omega arith); short = λ a b. omega arith; single = λ e. absurd (omega arith) } },
       (
-        record { known = (tt, (tt, (tt, (tt, (tt, tt))))); fits = λ v. record { table = refl; row = λ m b. refl; follows = λ p. rw (true-and (within 1 2 p)); limited = λ m b. sym (no-limit _); unlimited = λ m e. absurd (omega arith) } },
+        record { known = (tt, (tt, (tt, (tt, (tt, tt))))); fits = λ v. record { table = refl; row = λ m b. refl; follows = λ p. rw (true-and (within 1 2 p)); limited = λ m b. sym (no-limit _); unlimited = λ m e. absurd (omega arith); short = λ a b. omega arith; single = λ e. absurd (omega arith) } },
         (
-          record { known = (tt, (tt, (tt, (tt, tt)))); fits = λ v. record { table = refl; row = λ m b. refl; follows = λ p. rw (true-and (within 1 3 p)); limited = λ m b. sym (no-limit _); unlimited = λ m e. absurd (omega arith) } },
+          record { known = (tt, (tt, (tt, (tt, tt)))); fits = λ v. record { table = refl; row = λ m b. refl; follows = λ p. rw (true-and (within 1 3 p)); limited = λ m b. sym (no-limit _); unlimited = λ m e. absurd (omega arith); short = λ a b. omega arith; single = λ e. absurd (omega arith) } },
           (
-            record { known = (tt, (tt, (tt, tt))); fits = λ v. record { table = refl; row = λ m b. refl; follows = λ p. rw (true-and (within 1 4 p)); limited = λ m b. sym (no-limit _); unlimited = λ m e. absurd (omega arith) } },
+            record { known = (tt, (tt, (tt, tt))); fits = λ v. record { table = refl; row = λ m b. refl; follows = λ p. rw (true-and (within 1 4 p)); limited = λ m b. sym (no-limit _); unlimited = λ m e. absurd (omega arith); short = λ a b. omega arith; single = λ e. absurd (omega arith) } },
             (
-              record { known = (tt, (tt, tt)); fits = λ v. record { table = refl; row = λ m b. refl; follows = λ p. rw (true-and (within 1 5 p)); limited = λ m b. sym (no-limit _); unlimited = λ m e. absurd (omega arith) } },
+              record { known = (tt, (tt, tt)); fits = λ v. record { table = refl; row = λ m b. refl; follows = λ p. rw (true-and (within 1 5 p)); limited = λ m b. sym (no-limit _); unlimited = λ m e. absurd (omega arith); short = λ a b. omega arith; single = λ e. absurd (omega arith) } },
               (
-                record { known = (tt, (tt, tt)); fits = λ v. record { table = refl; row = λ m b. sig-row (wire-word (v .0)) (wire-word (v .1 .0)) (v .1 .1 .0); follows = λ p. rw (true-and (within 1 6 p)); limited = λ m b. sig-limit (unless (ltb (length (m .sigs)) 64) (2 ∷ 0 ∷ 0 ∷ 2 ∷ [])) (wire-word (v .0)) (wire-word (v .1 .0)) (v .1 .1 .0); unlimited = λ m e. absurd (omega arith) } },
+                record { known = (tt, (tt, tt)); fits = λ v. record { table = refl; row = λ m b. sig-row (wire-word (v .0)) (wire-word (v .1 .0)) (v .1 .1 .0); follows = λ p. rw (true-and (within 1 6 p)); limited = λ m b. sig-limit (unless (ltb (length (m .sigs)) 64) (2 ∷ 0 ∷ 0 ∷ 2 ∷ [])) (wire-word (v .0)) (wire-word (v .1 .0)) (v .1 .1 .0); unlimited = λ m e. absurd (omega arith); short = λ a b. absurd (b refl); single = λ e. absurd (omega arith) } },
                 (
-                  record { known = (tt, (tt, tt)); fits = λ v. record { table = refl; row = λ m b. refl; follows = λ p. rw (true-and (within 1 7 p)); limited = λ m b. refl; unlimited = λ m e. absurd (omega arith) } },
+                  record { known = (tt, (tt, tt)); fits = λ v. record { table = refl; row = λ m b. refl; follows = λ p. rw (true-and (within 1 7 p)); limited = λ m b. refl; unlimited = λ m e. absurd (omega arith); short = λ a b. omega arith; single = λ e. refl } },
                   (
-                    record { known = (tt, (λ n. refl, λ b. refl, (tt, tt))); fits = λ v. record { table = refl; row = λ m b. refl; follows = λ p. rw (true-and (within 8 8 p)); limited = λ m b. sym (no-limit _); unlimited = λ m e. absurd (omega arith) } },
-                    (record { known = (tt, tt); fits = λ v. record { table = refl; row = λ m b. absurd (omega arith); follows = λ p. rw (true-and (within 1 9 p)); limited = λ m b. absurd (omega arith); unlimited = λ m e. refl } }, tt),
+                    record { known = (tt, (λ n. refl, λ b. refl, (tt, tt))); fits = λ v. record { table = refl; row = λ m b. refl; follows = λ p. rw (true-and (within 8 8 p)); limited = λ m b. sym (no-limit _); unlimited = λ m e. absurd (omega arith); short = λ a b. omega arith; single = λ e. absurd (omega arith) } },
+                    (record { known = (tt, tt); fits = λ v. record { table = refl; row = λ m b. absurd (omega arith); follows = λ p. rw (true-and (within 1 9 p)); limited = λ m b. absurd (omega arith); unlimited = λ m e. refl; short = λ a b. omega arith; single = λ e. absurd (omega arith) } }, tt),
                   ),
                 ),
               ),
@@ -171,6 +173,8 @@ module _ (f n : ℕ) (e : f ≡ 11 + n) (o : Op) (c : o .code ≡ n) where
         follows = λ p. rw (op-kind, unequal, not-form 0 (omega arith), true-and (within 8 9 p));
         limited = λ m b. rw (op-kind, own-limit, not-form 7 (omega arith), not-form 8 (omega arith)) (sym (no-limit _));
         unlimited = λ m x. absurd (omega arith);
+        short = λ a b. absurd (omega arith);
+        single = λ a. absurd (omega arith);
       }
 
 -- ── One form of the list ──────────────────────────────────────────────────────────────────

@@ -7,3 +7,4 @@ pub mod Rows
 pub mod Find
 pub mod OpLines
 pub mod OpRead
+pub mod Step

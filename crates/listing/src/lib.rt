@@ -15,9 +15,15 @@ ghost use Rattle.definition.specs.Basics.{is-member};
 ghost use mathlib.Core.Bool.{false, _&&_};
 ghost use lib.Dec.{leb};
 ghost use Rattle.definition.specs.Read.{line-forms, op-forms, read-line};
+ghost use Rattle.definition.specs.Read.{Line, Reader, next-line, within};
+ghost use Rattle.definition.specs.Module.{Module, all-consts, all-ops};
+ghost use Rattle.bytecode.specs.Tables.{size};
+ghost use Rattle.bytecode.specs.Held.{Held, lists, Sound};
+ghost use Rattle.listing.specs.Forms.{Fits, form-kind, lows, highs, place-after, may-stand, own-limit, head-word, row-words};
+ghost use Rattle.listing.specs.Step.{StepIs, limit-of, Same-words};
 ghost use Rattle.listing.specs.OpLines.{name-ends, name-of};
 ghost use Rattle.listing.specs.Find.{Entered, whole-line};
-ghost use Rattle.listing.specs.Rows.{Rowed, left, shapes-over, value-at, code-after};
+ghost use Rattle.listing.specs.Rows.{Rowed, Stored, left, shapes-over, value-at, code-after};
 ghost use Rattle.listing.specs.Shape.{end-at, top-at, scalar-at, flat-at};
 ghost use Rattle.listing.specs.Num.{result, after, at-most};
 
@@ -564,4 +570,173 @@ fn read_entry(s: &[u8]) -> Entry
         return line_entry(s);
     };
     op_entry(s)
+}
+
+// What a line does: the reader goes on at a place; or the line is refused, by its form or place, by a full table, or by LOCALS.
+pub enum Step {
+    On(u64),
+    Wrong,
+    Full,
+    Locals,
+}
+
+// For each form that is no op, its table; the closing line has none.
+const KINDS: [usize; 11] = [0, 1, 1, 2, 3, 4, 5, 6, 7, 8, 10];
+
+// For each table, and last the closing line: the places where its lines may stand, and the place after such a line.
+const LOWS: [u64; 11] = [0, 1, 1, 1, 1, 1, 1, 1, 8, 8, 1];
+
+const HIGHS: [u64; 11] = [0, 1, 2, 3, 4, 5, 6, 7, 8, 9, 9];
+
+const NEXTS: [u64; 10] = [1, 1, 2, 3, 4, 5, 6, 8, 8, 9];
+
+fn kind_of(form: usize) -> usize
+    ensures { λ r. ⌜ (r ≡ form-kind form) × (r < 11) ⌝ }
+{
+    if form < 11 {
+        return KINDS[form];
+    }
+    9
+}
+
+fn low_of(kind: usize) -> u64
+    requires { ⌜ kind < 11 ⌝ }
+    ensures { λ r. ⌜ r ≡ getD lows kind 0 ⌝ }
+{
+    LOWS[kind]
+}
+
+fn high_of(kind: usize) -> u64
+    requires { ⌜ kind < 11 ⌝ }
+    ensures { λ r. ⌜ r ≡ getD highs kind 0 ⌝ }
+{
+    HIGHS[kind]
+}
+
+fn place_after(kind: usize, place: u64) -> u64
+    requires { ⌜ kind < 11 ⌝ }
+    ensures { λ r. ⌜ r ≡ place-after kind place ⌝ }
+{
+    if kind == 10 {
+        if 8 <= place {
+            return 7;
+        }
+        return 10;
+    }
+    NEXTS[kind]
+}
+
+fn stands(place: u64, kind: usize) -> bool
+    requires { ⌜ kind < 11 ⌝ }
+    ensures { λ r. ⌜ r ≡ within (getD lows kind 0) (getD highs kind 0) place ⌝ }
+{
+    if place < low_of(kind) {
+        return false;
+    }
+    place <= high_of(kind)
+}
+
+// Whether a line may follow at a place. I and H of the first line are unequal.
+fn may_stand(place: u64, e: Entry) -> bool
+    ensures { λ r. ⌜ ((vs : List ℕ) → Stored (e .vals) (e .count) vs → r ≡ may-stand place (e .form) vs) ⌝ }
+{
+    let form = e.form;
+    let vals = e.vals;
+    let kind = kind_of(form);
+    if stands(place, kind) {
+        if form == 0 {
+            return vals[6] != vals[7];
+        }
+        return true;
+    }
+    false
+}
+
+// The limit that a line meets by itself: 2 for a signature of more than 16 parameters, 3 for LOCALS over 32; else 0.
+fn own_limit(e: Entry) -> u64
+    ensures { λ r. ⌜ ((vs : List ℕ) → Stored (e .vals) (e .count) vs → own-limit (e .form) vs ≡ limit-of r) × (r ≤ 3) × (r ≡ 1 → ⊥) ⌝ }
+{
+    let form = e.form;
+    let vals = e.vals;
+    let n = e.count;
+    if form == 7 {
+        if 18 < n {
+            return 2;
+        }
+        return 0;
+    }
+    if form == 8 {
+        if 32 < vals[1] {
+            return 3;
+        }
+    }
+    0
+}
+
+fn wide_size(x: usize) -> u64
+    ensures { λ r. ⌜ r ≡ x ⌝ }
+{
+    x as u64
+}
+
+// The first word of a line's row: 0 or 1 for a slot, the op's number, else how many values follow.
+fn head_word(form: usize, count: usize) -> u64
+    ensures { λ r. ⌜ r ≡ head-word form count ⌝ }
+{
+    if 11 <= form {
+        return wide_size(form - 11);
+    }
+    if form == 1 {
+        return 0;
+    }
+    if form == 2 {
+        return 1;
+    }
+    wide_size(count)
+}
+
+// The words of a line's row; a chunk's row says besides how many constants and instructions come before it.
+fn row_words(e: Entry, constants: u64, instructions: u64) -> [u64; 19]
+    ensures { λ r. ⌜ ((m : Module) (vs : List ℕ) (l : Line) → Stored (e .vals) (e .count) vs → Fits l (e .form) vs → own-limit (e .form) vs ≡ none → constants ≡ length (all-consts (m .chunks)) → instructions ≡ length (all-ops (m .chunks)) → Same-words r (row-words m (e .form) vs)) ⌝ }
+{
+    let form = e.form;
+    let mut words = e.vals;
+    words[0] = head_word(form, e.count);
+    if form == 8 {
+        words[2] = constants;
+        words[3] = instructions;
+        return words;
+    }
+    words
+}
+
+// One line, from the tables before it to the tables after it.
+fn one_line(t: &mut [u64], place: u64, s: &[u8]) -> Step
+    requires { ⌜ (length (now t) ≡ size) × (length (now s) ≤ 65536) ⌝ }
+    ensures { λ r. ⌜ ((n : ℕ) (q : Reader) → q .place ≡ place → Held (now (t .entry)) (lists q) → Sound q → StepIs n (next-line n q (now (s .entry))) r (now (t .exit))) × (length (now (t .exit)) ≡ size) ⌝ }
+{
+    let e = read_entry(s);
+    if 86 <= e.form {
+        return Step::Wrong;
+    }
+    if !may_stand(place, e) {
+        return Step::Wrong;
+    }
+    let k = kind_of(e.form);
+    if k == 10 {
+        return Step::On(place_after(k, place));
+    }
+    if bytecode::cap_of(k) <= t[k] {
+        return Step::Full;
+    }
+    let own = own_limit(e);
+    if own == 2 {
+        return Step::Full;
+    }
+    if own == 3 {
+        return Step::Locals;
+    }
+    let row = row_words(e, t[8], t[9]);
+    bytecode::append(t, k, &row);
+    Step::On(place_after(k, place))
 }
