@@ -8,3 +8,4 @@ pub mod Find
 pub mod OpLines
 pub mod OpRead
 pub mod Step
+pub mod Reads

@@ -15,7 +15,8 @@ ghost use Rattle.definition.specs.Basics.{is-member};
 ghost use mathlib.Core.Bool.{false, _&&_};
 ghost use lib.Dec.{leb};
 ghost use Rattle.definition.specs.Read.{line-forms, op-forms, read-line};
-ghost use Rattle.definition.specs.Read.{Line, Reader, next-line, within};
+ghost use Rattle.definition.specs.Read.{Line, Reader, at-start, next-line, within};
+ghost use Rattle.listing.specs.Reads.{Read-is, Line-end, read-all, read-listing};
 ghost use Rattle.definition.specs.Module.{Module, all-consts, all-ops};
 ghost use Rattle.bytecode.specs.Tables.{size};
 ghost use Rattle.bytecode.specs.Held.{Held, lists, Sound};
@@ -739,4 +740,86 @@ fn one_line(t: &mut [u64], place: u64, s: &[u8]) -> Step
     let row = row_words(e, t[8], t[9]);
     bytecode::append(t, k, &row);
     Step::On(place_after(k, place))
+}
+
+// Where the line from `at` on ends: at its LF, or with the bytes.
+fn line_end(s: &[u8], at: usize) -> usize
+    requires { ⌜ at ≤ length (now s) ⌝ }
+    ensures { λ r. ⌜ Line-end (now (s .entry)) at r ⌝ }
+{
+    let mut i = at;
+    while i < s.len() {
+        if s[i] == 10 {
+            return i;
+        }
+        i += 1;
+    }
+    i
+}
+
+// What reading a listing gives: its module is in the tables; or a line cannot follow, after so many others, or the end is missing; or a limit.
+pub enum Reading {
+    Module,
+    Line(u64),
+    Limit(u64),
+}
+
+// No table has a row.
+fn clear(t: &mut [u64])
+    requires { ⌜ length (now t) ≡ size ⌝ }
+    ensures { λ r. ⌜ Held (now (t .exit)) (lists at-start) ⌝ }
+{
+    let mut k = 0;
+    while k < 10 {
+        t[k] = 0;
+        k += 1;
+    }
+}
+
+// Lines from the first on, each after the tables of those before it.
+fn read_lines(s: &[u8], t: &mut [u64]) -> Reading
+    requires { ⌜ (length (now s) ≤ 65536) × Held (now t) (lists at-start) ⌝ }
+    ensures { λ r. ⌜ Read-is (read-all (now (s .entry))) r (now (t .exit)) ⌝ }
+{
+    let mut place: u64 = 0;
+    let mut lines: u64 = 0;
+    let mut at = 0;
+    while at < s.len() {
+        let e = line_end(s, at);
+        if s.len() <= e {
+            return Reading::Line(lines);
+        }
+        let step = one_line(t, place, &s[at..e]);
+        match step {
+            Step::On(p) => {
+                place = p;
+                lines += 1;
+                at = e + 1;
+            }
+            Step::Wrong => {
+                return Reading::Line(lines);
+            }
+            Step::Full => {
+                return Reading::Limit(2);
+            }
+            Step::Locals => {
+                return Reading::Limit(3);
+            }
+        }
+    }
+    if place == 10 {
+        return Reading::Module;
+    }
+    Reading::Line(lines)
+}
+
+// Reads a listing into lent tables, whatever they hold.
+pub fn read(s: &[u8], t: &mut [u64; 22232]) -> Reading
+    ensures { λ r. ⌜ Read-is (read-listing (now (s .entry))) r (now (t .exit)) ⌝ }
+{
+    if 65536 < s.len() {
+        return Reading::Limit(1);
+    }
+    clear(t);
+    read_lines(s, t)
 }
