@@ -9,3 +9,4 @@ pub mod OpLines
 pub mod OpRead
 pub mod Step
 pub mod Reads
+pub mod Fitting
