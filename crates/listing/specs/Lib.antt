@@ -10,3 +10,4 @@ pub mod OpRead
 pub mod Step
 pub mod Reads
 pub mod Fitting
+pub mod Answer

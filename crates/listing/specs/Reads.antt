@@ -31,9 +31,6 @@ Read-is res R.Module u = (q : Reader) × (res ≡ ok (q .so-far)) × (1 ≤ q .p
 Read-is res (R.Line n) u = res ≡ refused (1 ∷ 0 ∷ n ∷ [])
 Read-is res (R.Limit n) u = res ≡ refused (limit n)
 
-abbrev pub read-listing : Bytes → Result Module
-read-listing s = read s
-
 unfoldable pub read-all : Bytes → Result Module
 read-all s = read-lines 0 at-start (cut s)
 

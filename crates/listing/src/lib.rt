@@ -16,7 +16,9 @@ ghost use mathlib.Core.Bool.{false, _&&_};
 ghost use lib.Dec.{leb};
 ghost use Rattle.definition.specs.Read.{line-forms, op-forms, read-line};
 ghost use Rattle.definition.specs.Read.{Line, Reader, at-start, next-line, within};
-ghost use Rattle.listing.specs.Reads.{Read-is, Line-end, read-all, read-listing};
+ghost use Rattle.listing.specs.Reads.{Read-is, Line-end, read-all};
+ghost use Rattle.listing.specs.Answer.{result-of, Left-in};
+ghost use Rattle.definition.specs.Read.{read as read-listing};
 ghost use Rattle.definition.specs.Module.{Module, all-consts, all-ops};
 ghost use Rattle.bytecode.specs.Tables.{size};
 ghost use Rattle.bytecode.specs.Held.{Held, lists, Sound};
@@ -815,7 +817,7 @@ fn read_lines(s: &[u8], t: &mut [u64]) -> Reading
 
 // Reads a listing into lent tables, whatever they hold.
 pub fn read(s: &[u8], t: &mut [u64; 22232]) -> Reading
-    ensures { λ r. ⌜ Read-is (read-listing (now (s .entry))) r (now (t .exit)) ⌝ }
+    ensures { λ r. ⌜ (read-listing (now (s .entry)) ≡ result-of r (now (t .exit))) × Left-in r (now (t .exit)) ⌝ }
 {
     if 65536 < s.len() {
         return Reading::Limit(1);
