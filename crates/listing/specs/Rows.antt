@@ -10,7 +10,7 @@ use native.Mathlib.Numerals.{add-one}
 use native.Mathlib.Decide.{decLt}
 use native.Mathlib.Nat.{add-zero}
 use lib.Dec.{T, eqb, ltb}
-use borrow.Author.Tests.{eq-eqb, ne-eqb, lt-ltb, le-ltb, eqb-true, not-true, not-false}
+use borrow.Author.Tests.{eq-eqb, ne-eqb, lt-ltb, le-ltb, eqb-true, eqb-false, not-true, not-false}
 use lib.ListN.{length, getD, set, drop, length-append, length-set, List·getD-append, List·getD-eq-default, drop-of-length-le, length-drop, replicate, getD-replicate}
 use lib.Seq.{getD-set-same, getD-set-other, getD-at, drop-cons}
 use Rattle.definition.specs.Format.{Bytes, number-at, strip, _and-then_, begins-with, form, bytes}
@@ -270,6 +270,26 @@ module _ (s : Bytes) (i j : ℕ) where
         unfolding strip no-word then-words left _and-then_
         byte-more l e =
             left-byte ∙ (rw (drop-cons s i 0 l, strip, eq-eqb (getD formats j 0) (getD s i 0) (sym e), add-one i) (joined-none _))
+
+        pub byte-in : begins-with (getD formats j 0) (drop i s) ≡ true → i < length s
+        unfolding begins-with
+        byte-in e = elim (decLt i (length s)) [
+          | yes p ↦ p
+          | no q ↦ true-false e (ap (begins-with (getD formats j 0)) (drop-of-length-le s {i = i} (omega arith)))
+        ]
+
+        pub byte-is : begins-with (getD formats j 0) (drop i s) ≡ true → left s i j ≡ left s (i + 1) (j + 1)
+        unfolding begins-with
+        byte-is e =
+            let l : i < length s = byte-in e in
+            byte-more l (eqb-true (getD s i 0) (getD formats j 0) (sym (ap (begins-with (getD formats j 0)) (drop-cons s i 0 l)) ∙ e))
+
+        pub byte-not : begins-with (getD formats j 0) (drop i s) ≡ false → left s i j ≡ none
+        unfolding begins-with
+        byte-not e = elim (decLt i (length s)) [
+          | yes p ↦ byte-differs p (eqb-false (getD s i 0) (getD formats j 0) (sym (ap (begins-with (getD formats j 0)) (drop-cons s i 0 p)) ∙ e))
+          | no q ↦ byte-short (omega arith)
+        ]
 
       module _ (hn : 128 ≤ getD formats j 0) where
         pub left-over : shapes-over (getD formats j 0) (drop i s) ≡ true → left s i j ≡ left s i (j + 1)

@@ -6,7 +6,7 @@ ghost use mathlib.Core.List.{List, _∷_, []};
 ghost use mathlib.Core.Option.{none, some};
 ghost use lib.ListN.{length, take, drop, getD};
 ghost use Prim.Native.Nat.{ℕ, _+_, _*_, _^_, _-_, _<_, _≤_};
-ghost use Rattle.definition.specs.Format.{Bytes, bytes, digits-from, is-digit, begins-digit, begins-number, number-at, numbers-at, strip};
+ghost use Rattle.definition.specs.Format.{Bytes, bytes, digits-from, is-digit, begins-digit, begins-number, number-at, numbers-at, strip, begins-with};
 ghost use Rattle.definition.specs.Shapes.{same-places};
 ghost use Rattle.definition.specs.Ops.{ops as op-rows};
 ghost use Rattle.bytecode.specs.Meaning.{maxima-of};
@@ -322,6 +322,16 @@ fn code_after(j: usize, c: u8) -> usize
     if c == 141 { j } else { j + 1 }
 }
 
+// Whether the byte at i is c.
+fn is_byte(s: &[u8], i: usize, c: u8) -> bool
+    ensures { λ r. ⌜ r ≡ begins-with c (drop i (now (s .entry))) ⌝ }
+{
+    if i < s.len() {
+        return s[i] == c;
+    }
+    false
+}
+
 // The line s by form f, from its beginning.
 fn scan(s: &[u8], f: usize) -> Row
     requires { ⌜ (f < 11) × (length (now s) ≤ 65536) ⌝ }
@@ -334,38 +344,30 @@ fn scan(s: &[u8], f: usize) -> Row
     while j < 176 {
         let c = format_at(j);
         if c == 10 {
-            return Row {
-                ok: true,
-                next: i,
-                count: n,
-                vals: vals,
-            };
+            break;
         }
         if c < 128 {
-            if s.len() <= i {
-                return no_row();
-            }
-            if s[i] != c {
+            if !is_byte(s, i, c) {
                 return no_row();
             }
             i += 1;
             j += 1;
+            continue;
+        }
+        if over(s, i, c) {
+            j += 1;
+            continue;
+        }
+        let Num::Read(v, next) = value(s, i, c) else {
+            return no_row();
+        };
+        j = code_after(j, c);
+        i = next;
+        if n < 18 {
+            vals[n + 1] = v;
+            n += 1;
         } else {
-            if over(s, i, c) {
-                j += 1;
-            } else {
-                let Num::Read(v, next) = value(s, i, c) else {
-                    return no_row();
-                };
-                j = code_after(j, c);
-                i = next;
-                if n < 18 {
-                    vals[n + 1] = v;
-                    n += 1;
-                } else {
-                    n = 19;
-                }
-            }
+            n = 19;
         }
     }
     Row {
