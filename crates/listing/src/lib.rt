@@ -12,7 +12,7 @@ ghost use Rattle.definition.specs.Ops.{ops as op-rows};
 ghost use Rattle.bytecode.specs.Meaning.{maxima-of};
 ghost use Rattle.listing.specs.Scan.{admitted, formats, shape-word, max-code};
 ghost use Rattle.definition.specs.Basics.{is-member};
-ghost use mathlib.Core.Bool.{false, _&&_};
+ghost use mathlib.Core.Bool.{true, false, _&&_};
 ghost use lib.Dec.{leb};
 ghost use Rattle.definition.specs.Read.{line-forms, op-forms, read-line};
 ghost use Rattle.definition.specs.Read.{Line, Reader, at-start, next-line, within};
@@ -288,6 +288,17 @@ fn no_row() -> Row
     }
 }
 
+fn full_row(next: usize, count: usize, vals: [u64; 19]) -> Row
+    ensures { λ r. ⌜ (r .ok ≡ true) × (r .next ≡ next) × (r .count ≡ count) × (r .vals ≡ vals) ⌝ }
+{
+    Row {
+        ok: true,
+        next: next,
+        count: count,
+        vals: vals,
+    }
+}
+
 // Whether the code is that of shapes, and no space comes next.
 fn over(s: &[u8], i: usize, c: u8) -> bool
     ensures { λ r. ⌜ r ≡ shapes-over c (drop i (now (s .entry))) ⌝ }
@@ -370,12 +381,7 @@ fn scan(s: &[u8], f: usize) -> Row
             n = 19;
         }
     }
-    Row {
-        ok: true,
-        next: i,
-        count: n,
-        vals: vals,
-    }
+    full_row(i, n, vals)
 }
 
 // A line: the number of its form (86 where it has none), how many values it has (19 for more than 18), and the values from place 1 on.
@@ -503,12 +509,7 @@ fn operands(s: &[u8], at: usize, row: usize) -> Row
     while j < 3 {
         let m = maximum(row, j);
         if m == 0 {
-            return Row {
-                ok: true,
-                next: i,
-                count: j,
-                vals: vals,
-            };
+            break;
         }
         let c = maximum_code(m);
         let Num::Read(v, next) = number(s, i, c) else {
@@ -518,12 +519,7 @@ fn operands(s: &[u8], at: usize, row: usize) -> Row
         i = next;
         j += 1;
     }
-    Row {
-        ok: true,
-        next: i,
-        count: j,
-        vals: vals,
-    }
+    full_row(i, j, vals)
 }
 
 // Whether the line ends with `)` at i, and what stands before it was read.
