@@ -150,7 +150,7 @@ fn from_wire(w: WireShape) -> Shape
     }
 }
 
-fn wire_value(w: WireShape) -> Value
+pub fn wire_value(w: WireShape) -> Value
     ensures { λ r. ⌜ valueOf r ≡ declared-shape w ⌝ }
 {
     let shape = from_wire(w);

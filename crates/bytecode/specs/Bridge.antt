@@ -371,10 +371,16 @@ module _ (t : List ℕ) (r : Reader) (h : Held t (lists r)) where
     codes-are k b [] x = refl
     codes-are k b (c ∷ cs) x = (let e : codeOf t k ≡ c = x .0 in let q : tabulate (suc k) (length cs) (codeOf t) ≡ cs = codes-are (suc k) _ cs (x .2) in rw (e, q))
 
-    chunk-count : count t 7 ≡ length (m .chunks)
+    -- Counts are those of the module,
+    pub chunk-count : count t 7 ≡ length (r .so-far .chunks)
+    unfolding m
     chunk-count = omega (arith, all-from .chunks-end)
 
-    -- The tables mean the module that they hold,
+    pub op-total : count t 9 ≡ length (all-ops (r .so-far .chunks))
+    unfolding m
+    op-total = omega (arith, all-from .ops-end)
+
+    -- the tables mean the module that they hold,
     pub module-is : 1 ≤ r .place → moduleOf t ≡ r .so-far
     unfolding moduleOf m
     module-is l =

@@ -1,0 +1,13 @@
+pub mod Scan
+pub mod Agree
+pub mod Forms
+pub mod Num
+pub mod Shape
+pub mod Rows
+pub mod Find
+pub mod OpLines
+pub mod OpRead
+pub mod Step
+pub mod Reads
+pub mod Fitting
+pub mod Answer

@@ -1,0 +1,825 @@
+// Reads a listing into the tables, line by line, each by the first of the line forms that takes it whole.
+use bytecode::ops;
+use bytecode::ops::Found;
+ghost use mathlib.Core.Path.{_≡_};
+ghost use mathlib.Core.List.{List, _∷_, []};
+ghost use mathlib.Core.Option.{none, some};
+ghost use lib.ListN.{length, take, drop, getD};
+ghost use Prim.Native.Nat.{ℕ, _+_, _*_, _^_, _-_, _<_, _≤_};
+ghost use Rattle.definition.specs.Format.{Bytes, bytes, digits-from, is-digit, begins-digit, begins-number, number-at, numbers-at, strip, begins-with};
+ghost use Rattle.definition.specs.Shapes.{same-places};
+ghost use Rattle.definition.specs.Ops.{ops as op-rows};
+ghost use Rattle.bytecode.specs.Meaning.{maxima-of};
+ghost use Rattle.listing.specs.Scan.{admitted, formats, shape-word, max-code};
+ghost use Rattle.definition.specs.Basics.{is-member};
+ghost use mathlib.Core.Bool.{true, false, _&&_};
+ghost use lib.Dec.{leb};
+ghost use Rattle.definition.specs.Read.{line-forms, op-forms, read-line};
+ghost use Rattle.definition.specs.Read.{Line, Reader, at-start, next-line, within};
+ghost use Rattle.listing.specs.Reads.{Read-is, Line-end, read-all};
+ghost use Rattle.listing.specs.Answer.{result-of, Left-in};
+ghost use Rattle.definition.specs.Read.{read as read-listing};
+ghost use Rattle.definition.specs.Module.{Module, all-consts, all-ops};
+ghost use Rattle.bytecode.specs.Tables.{size};
+ghost use Rattle.bytecode.specs.Held.{Held, lists, Sound};
+ghost use Rattle.listing.specs.Forms.{Fits, form-kind, lows, highs, place-after, may-stand, own-limit, head-word, row-words};
+ghost use Rattle.listing.specs.Step.{StepIs, limit-of, Same-words};
+ghost use Rattle.listing.specs.OpLines.{name-ends, name-of};
+ghost use Rattle.listing.specs.Find.{Entered, whole-line};
+ghost use Rattle.listing.specs.Rows.{Rowed, Stored, left, shapes-over, value-at, code-after};
+ghost use Rattle.listing.specs.Shape.{end-at, top-at, scalar-at, flat-at};
+ghost use Rattle.listing.specs.Num.{result, after, at-most};
+
+// The forms of all lines but ops as bytes, 16 to each, filled up with LF; specs/Scan.antt says what a byte stands for.
+const FORMATS: [u8; 176] = [40, 109, 111, 100, 117, 108, 101, 131, 131, 132, 130, 130, 129, 129, 10, 10, 40, 115, 108, 111, 116, 32, 115, 104, 97, 114, 101, 100, 41, 10, 10, 10, 40, 115, 108, 111, 116, 32, 112, 114, 105, 118, 97, 116, 101, 41, 10, 10, 40, 115, 104, 97, 114, 101, 100, 130, 128, 129, 41, 10, 10, 10, 10, 10, 40, 112, 114, 105, 118, 97, 116, 101, 129, 130, 41, 10, 10, 10, 10, 10, 40, 101, 110, 117, 109, 130, 41, 10, 10, 10, 10, 10, 10, 10, 10, 10, 40, 110, 97, 116, 105, 118, 101, 140, 41, 10, 10, 10, 10, 10, 10, 10, 40, 115, 105, 103, 140, 140, 141, 41, 10, 10, 10, 10, 10, 10, 10, 10, 40, 99, 104, 117, 110, 107, 129, 10, 10, 10, 10, 10, 10, 10, 10, 10, 40, 99, 111, 110, 115, 116, 133, 41, 10, 10, 10, 10, 10, 10, 10, 10, 41, 10, 10, 10, 10, 10, 10, 10, 10, 10, 10, 10, 10, 10, 10, 10];
+
+// A number, or a shape's word, and where it ends.
+pub enum Num {
+    Read(u64, usize),
+    Bad,
+}
+
+fn format_at(j: usize) -> u8
+    requires { ⌜ j < 176 ⌝ }
+    ensures { λ r. ⌜ r ≡ getD formats j 0 ⌝ }
+{
+    FORMATS[j]
+}
+
+fn wide(x: u8) -> u64
+    ensures { λ r. ⌜ r ≡ x ⌝ }
+{
+    x as u64
+}
+
+fn digit(b: u8) -> bool
+    ensures { λ r. ⌜ r ≡ is-digit b ⌝ }
+{
+    if b < 48 {
+        return false;
+    }
+    b <= 57
+}
+
+fn digit_at(s: &[u8], i: usize) -> bool
+    ensures { λ r. ⌜ r ≡ begins-digit (drop i (now (s .entry))) ⌝ }
+{
+    if i < s.len() {
+        return digit(s[i]);
+    }
+    false
+}
+
+// A digit comes first, and after a first 0 no other.
+fn number_begins(s: &[u8], i: usize) -> bool
+    ensures { λ r. ⌜ r ≡ begins-number (drop i (now (s .entry))) ⌝ }
+{
+    if s.len() <= i {
+        return false;
+    }
+    let b = s[i];
+    if b == 48 {
+        return !digit_at(s, i + 1);
+    }
+    digit(b)
+}
+
+// n and its end, if n has at most 32 bits.
+fn fit(n: u64, i: usize) -> Num
+    ensures { λ r. ⌜ ((t : Bytes) → result t r ≡ at-most 4294967295 (n, drop i t)) ⌝ }
+{
+    if n <= 4294967295 {
+        Num::Read(n, i)
+    } else {
+        Num::Bad
+    }
+}
+
+// The number that the digits from `at` on give, if it has at most 32 bits, and where they end.
+fn digits(s: &[u8], at: usize) -> Num
+    requires { ⌜ at ≤ length (now s) ⌝ }
+    ensures { λ r. ⌜ result (now (s .entry)) r ≡ at-most 4294967295 (digits-from 0 (drop at (now (s .entry)))) ⌝ }
+{
+    let mut n: u64 = 0;
+    let mut i = at;
+    while i < s.len() {
+        let b = wide(s[i]);
+        if b < 48 {
+            return fit(n, i);
+        }
+        if 57 < b {
+            return fit(n, i);
+        }
+        if 4294967295 < n {
+            return Num::Bad;
+        }
+        n = n * 10 + (b - 48);
+        i += 1;
+    }
+    fit(n, i)
+}
+
+// The numbers that a code admits.
+fn admits(c: u8, n: u64) -> bool
+    ensures { λ r. ⌜ r ≡ admitted c n ⌝ }
+{
+    match c {
+        131 => is_width(n),
+        132 => is_address(n),
+        133 => is_constant(n),
+        128 => n <= 255,
+        129 => n <= 65535,
+        130 => n <= 4294967295,
+        134 => n <= 7,
+        _ => n <= 3,
+    }
+}
+
+fn is_width(n: u64) -> bool
+    ensures { λ r. ⌜ r ≡ is-member n (1 ∷ 2 ∷ 4 ∷ 8 ∷ []) ⌝ }
+{
+    match n {
+        1 => true,
+        2 => true,
+        4 => true,
+        8 => true,
+        _ => false,
+    }
+}
+
+fn is_address(n: u64) -> bool
+    ensures { λ r. ⌜ r ≡ is-member n (3 ∷ 4 ∷ 5 ∷ 6 ∷ []) ⌝ }
+{
+    match n {
+        3 => true,
+        4 => true,
+        5 => true,
+        6 => true,
+        _ => false,
+    }
+}
+
+fn is_constant(n: u64) -> bool
+    ensures { λ r. ⌜ r ≡ is-member n (0 ∷ 1 ∷ 2 ∷ 3 ∷ 4 ∷ 5 ∷ 6 ∷ 255 ∷ []) ⌝ }
+{
+    if n <= 6 {
+        return true;
+    }
+    n == 255
+}
+
+// One space and a number that a code admits.
+fn number(s: &[u8], i: usize, c: u8) -> Num
+    ensures { λ r. ⌜ result (now (s .entry)) r ≡ number-at (admitted c) (drop i (now (s .entry))) ⌝ }
+{
+    if s.len() <= i {
+        return Num::Bad;
+    }
+    if s[i] != 32 {
+        return Num::Bad;
+    }
+    let at = i + 1;
+    if !number_begins(s, at) {
+        return Num::Bad;
+    }
+    let Num::Read(v, next) = digits(s, at) else {
+        return Num::Bad;
+    };
+    if admits(c, v) {
+        return Num::Read(v, next);
+    }
+    Num::Bad
+}
+
+// The place after a text.
+fn text(s: &[u8], at: usize, t: &[u8]) -> Num
+    ensures { λ r. ⌜ after (now (s .entry)) r ≡ strip (now (t .entry)) (drop at (now (s .entry))) ⌝ }
+{
+    let mut i = at;
+    let mut j = 0;
+    while j < t.len() {
+        if s.len() <= i {
+            return Num::Bad;
+        }
+        if s[i] != t[j] {
+            return Num::Bad;
+        }
+        i += 1;
+        j += 1;
+    }
+    Num::Read(0, i)
+}
+
+// The closing parenthesis after the word v.
+fn closed(s: &[u8], i: usize, v: u64) -> Num
+    ensures { λ r. ⌜ result (now (s .entry)) r ≡ end-at v (drop i (now (s .entry))) ⌝ }
+{
+    let Num::Read(_, e) = text(s, i, b")") else {
+        return Num::Bad;
+    };
+    Num::Read(v, e)
+}
+
+fn shape_top(s: &[u8], i: usize) -> Num
+    ensures { λ r. ⌜ result (now (s .entry)) r ≡ top-at (drop i (now (s .entry))) ⌝ }
+{
+    let Num::Read(_, e) = text(s, i, b" (top)") else {
+        return Num::Bad;
+    };
+    Num::Read(0, e)
+}
+
+fn shape_scalar(s: &[u8], i: usize) -> Num
+    ensures { λ r. ⌜ result (now (s .entry)) r ≡ scalar-at (drop i (now (s .entry))) ⌝ }
+{
+    let Num::Read(_, a) = text(s, i, b" (scalar") else {
+        return Num::Bad;
+    };
+    let Num::Read(k, b) = number(s, a, 128) else {
+        return Num::Bad;
+    };
+    closed(s, b, 1 + 4 * k)
+}
+
+fn shape_flat(s: &[u8], i: usize) -> Num
+    ensures { λ r. ⌜ result (now (s .entry)) r ≡ flat-at (drop i (now (s .entry))) ⌝ }
+{
+    let Num::Read(_, a) = text(s, i, b" (flat") else {
+        return Num::Bad;
+    };
+    let Num::Read(k, b) = number(s, a, 128) else {
+        return Num::Bad;
+    };
+    let Num::Read(n, d) = number(s, b, 130) else {
+        return Num::Bad;
+    };
+    closed(s, d, 2 + 4 * k + 1024 * n)
+}
+
+// A shape with the space before it, as its word.
+fn shape(s: &[u8], i: usize) -> Num
+    ensures { λ r. ⌜ result (now (s .entry)) r ≡ shape-word (drop i (now (s .entry))) ⌝ }
+{
+    if let Num::Read(v, e) = shape_top(s, i) {
+        return Num::Read(v, e);
+    }
+    if let Num::Read(v, e) = shape_scalar(s, i) {
+        return Num::Read(v, e);
+    }
+    shape_flat(s, i)
+}
+
+// The values of a line, from place 1 on, how many there are (19 for more than 18), and where they end.
+pub struct Row {
+    pub ok: bool,
+    pub next: usize,
+    pub count: usize,
+    pub vals: [u64; 19],
+}
+
+fn no_row() -> Row
+    ensures { λ r. ⌜ r .ok ≡ false ⌝ }
+{
+    Row {
+        ok: false,
+        next: 0,
+        count: 0,
+        vals: [0u64; 19],
+    }
+}
+
+fn full_row(next: usize, count: usize, vals: [u64; 19]) -> Row
+    ensures { λ r. ⌜ (r .ok ≡ true) × (r .next ≡ next) × (r .count ≡ count) × (r .vals ≡ vals) ⌝ }
+{
+    Row {
+        ok: true,
+        next: next,
+        count: count,
+        vals: vals,
+    }
+}
+
+// Whether the code is that of shapes, and no space comes next.
+fn over(s: &[u8], i: usize, c: u8) -> bool
+    ensures { λ r. ⌜ r ≡ shapes-over c (drop i (now (s .entry))) ⌝ }
+{
+    if c != 141 {
+        return false;
+    }
+    if i < s.len() {
+        return s[i] != 32;
+    }
+    true
+}
+
+// A shape's word, or a number that the code admits.
+fn value(s: &[u8], i: usize, c: u8) -> Num
+    ensures { λ r. ⌜ result (now (s .entry)) r ≡ value-at c (drop i (now (s .entry))) ⌝ }
+{
+    if c == 140 {
+        return shape(s, i);
+    }
+    if c == 141 {
+        return shape(s, i);
+    }
+    number(s, i, c)
+}
+
+// The place in the formats after a value: shapes stay where they are.
+fn code_after(j: usize, c: u8) -> usize
+    requires { ⌜ j < 176 ⌝ }
+    ensures { λ r. ⌜ r ≡ code-after j c ⌝ }
+{
+    if c == 141 { j } else { j + 1 }
+}
+
+// Whether the byte at i is c.
+fn is_byte(s: &[u8], i: usize, c: u8) -> bool
+    ensures { λ r. ⌜ r ≡ begins-with c (drop i (now (s .entry))) ⌝ }
+{
+    if i < s.len() {
+        return s[i] == c;
+    }
+    false
+}
+
+// The line s by form f, from its beginning.
+fn scan(s: &[u8], f: usize) -> Row
+    requires { ⌜ (f < 11) × (length (now s) ≤ 65536) ⌝ }
+    ensures { λ r. ⌜ Rowed (left (now (s .entry)) 0 (f * 16)) (now (s .entry)) [] r ⌝ }
+{
+    let mut vals = [0u64; 19];
+    let mut n: usize = 0;
+    let mut i: usize = 0;
+    let mut j = f * 16;
+    while j < 176 {
+        let c = format_at(j);
+        if c == 10 {
+            break;
+        }
+        if c < 128 {
+            if !is_byte(s, i, c) {
+                return no_row();
+            }
+            i += 1;
+            j += 1;
+            continue;
+        }
+        if over(s, i, c) {
+            j += 1;
+            continue;
+        }
+        let Num::Read(v, next) = value(s, i, c) else {
+            return no_row();
+        };
+        j = code_after(j, c);
+        i = next;
+        if n < 18 {
+            vals[n + 1] = v;
+            n += 1;
+        } else {
+            n = 19;
+        }
+    }
+    full_row(i, n, vals)
+}
+
+// A line: the number of its form (86 where it has none), how many values it has (19 for more than 18), and the values from place 1 on.
+pub struct Entry {
+    pub form: usize,
+    pub count: usize,
+    pub vals: [u64; 19],
+}
+
+fn no_entry() -> Entry
+    ensures { λ r. ⌜ r .form ≡ 86 ⌝ }
+{
+    Entry {
+        form: 86,
+        count: 0,
+        vals: [0u64; 19],
+    }
+}
+
+// Whether a form was read, and to the end of the line.
+fn whole(ok: bool, next: usize, end: usize) -> bool
+    ensures { λ r. ⌜ r ≡ (ok && leb end next) ⌝ }
+{
+    if ok {
+        return end <= next;
+    }
+    false
+}
+
+// A line that is no op, by the first form that takes it whole.
+fn line_entry(s: &[u8]) -> Entry
+    requires { ⌜ length (now s) ≤ 65536 ⌝ }
+    ensures { λ r. ⌜ Entered (whole-line line-forms (now (s .entry))) r ⌝ }
+{
+    let mut f = 0;
+    while f < 11 {
+        let r = scan(s, f);
+        let n = r.count;
+        let vals = r.vals;
+        if whole(r.ok, r.next, s.len()) {
+            return Entry {
+                form: f,
+                count: n,
+                vals: vals,
+            };
+        }
+        f += 1;
+    }
+    no_entry()
+}
+
+// Whether an op's name ends at i: before `)`, before a space and a digit, or with the line.
+fn name_ends(s: &[u8], i: usize) -> bool
+    ensures { λ r. ⌜ r ≡ name-ends (drop i (now (s .entry))) ⌝ }
+{
+    if s.len() <= i {
+        return true;
+    }
+    let b = s[i];
+    if b == 41 {
+        return true;
+    }
+    if b == 32 {
+        return digit_at(s, i + 1);
+    }
+    false
+}
+
+// Where the name from `at` on ends.
+fn name_end(s: &[u8], at: usize) -> usize
+    requires { ⌜ at ≤ length (now s) ⌝ }
+    ensures { λ r. ⌜ (at ≤ r) × (r ≤ length (now (s .entry))) × (take (r - at) (drop at (now (s .entry))) ≡ name-of (drop at (now (s .entry)))) ⌝ }
+{
+    let mut i = at;
+    while i < s.len() {
+        if name_ends(s, i) {
+            return i;
+        }
+        i += 1;
+    }
+    i
+}
+
+// The largest number that operand j of a row may be; 0 where there is none.
+fn maximum(row: usize, j: usize) -> u32
+    requires { ⌜ (row < 75) × (j < 3) ⌝ }
+    ensures { λ r. ⌜ r ≡ getD (maxima-of row) j 0 ⌝ }
+{
+    if j == 0 {
+        return ops::maximum_a(row);
+    }
+    if j == 1 {
+        return ops::maximum_b(row);
+    }
+    ops::maximum_c(row)
+}
+
+// The code of the numbers up to a maximum.
+fn maximum_code(m: u32) -> u8
+    ensures { λ r. ⌜ r ≡ max-code m ⌝ }
+{
+    if m == 255 {
+        return 128;
+    }
+    if m == 65535 {
+        return 129;
+    }
+    if m == 4294967295 {
+        return 130;
+    }
+    if m == 7 {
+        return 134;
+    }
+    135
+}
+
+// The operands of a row, from `at` on.
+fn operands(s: &[u8], at: usize, row: usize) -> Row
+    requires { ⌜ row < 75 ⌝ }
+    ensures { λ r. ⌜ Rowed (numbers-at (maxima-of row) (drop at (now (s .entry)))) (now (s .entry)) [] r ⌝ }
+{
+    let mut vals = [0u64; 19];
+    let mut i = at;
+    let mut j = 0;
+    while j < 3 {
+        let m = maximum(row, j);
+        if m == 0 {
+            break;
+        }
+        let c = maximum_code(m);
+        let Num::Read(v, next) = number(s, i, c) else {
+            return no_row();
+        };
+        vals[j + 1] = v;
+        i = next;
+        j += 1;
+    }
+    full_row(i, j, vals)
+}
+
+// Whether the line ends with `)` at i, and what stands before it was read.
+fn closes(s: &[u8], i: usize, ok: bool) -> bool
+    ensures { λ r. ⌜ r ≡ (ok && same-places (drop i (now (s .entry))) (41 ∷ [])) ⌝ }
+{
+    if !ok {
+        return false;
+    }
+    if s.len() <= i {
+        return false;
+    }
+    if s[i] != 41 {
+        return false;
+    }
+    s.len() == i + 1
+}
+
+// A line that begins as an op, by the row of its name.
+fn op_entry(s: &[u8]) -> Entry
+    requires { ⌜ (strip (bytes "(op ") (now s) ≡ some (drop 4 (now s))) × (4 ≤ length (now s)) ⌝ }
+    ensures { λ r. ⌜ Entered (whole-line (op-forms 0 op-rows) (now (s .entry))) r ⌝ }
+{
+    let at = 4;
+    let e = name_end(s, at);
+    let name = &s[at..e];
+    let Found::Row(row) = ops::find(name) else {
+        return no_entry();
+    };
+    let r = operands(s, e, row);
+    let n = r.count;
+    let vals = r.vals;
+    if closes(s, r.next, r.ok) {
+        return Entry {
+            form: 11 + row,
+            count: n,
+            vals: vals,
+        };
+    }
+    no_entry()
+}
+
+// The line that the bytes say.
+fn read_entry(s: &[u8]) -> Entry
+    requires { ⌜ length (now s) ≤ 65536 ⌝ }
+    ensures { λ r. ⌜ Entered (read-line (now (s .entry))) r ⌝ }
+{
+    let Num::Read(_, _) = text(s, 0, b"(op ") else {
+        return line_entry(s);
+    };
+    op_entry(s)
+}
+
+// What a line does: the reader goes on at a place; or the line is refused, by its form or place, by a full table, or by LOCALS.
+pub enum Step {
+    On(u64),
+    Wrong,
+    Full,
+    Locals,
+}
+
+// For each form that is no op, its table; the closing line has none.
+const KINDS: [usize; 11] = [0, 1, 1, 2, 3, 4, 5, 6, 7, 8, 10];
+
+// For each table, and last the closing line: the places where its lines may stand, and the place after such a line.
+const LOWS: [u64; 11] = [0, 1, 1, 1, 1, 1, 1, 1, 8, 8, 1];
+
+const HIGHS: [u64; 11] = [0, 1, 2, 3, 4, 5, 6, 7, 8, 9, 9];
+
+const NEXTS: [u64; 10] = [1, 1, 2, 3, 4, 5, 6, 8, 8, 9];
+
+fn kind_of(form: usize) -> usize
+    ensures { λ r. ⌜ (r ≡ form-kind form) × (r < 11) ⌝ }
+{
+    if form < 11 {
+        return KINDS[form];
+    }
+    9
+}
+
+fn low_of(kind: usize) -> u64
+    requires { ⌜ kind < 11 ⌝ }
+    ensures { λ r. ⌜ r ≡ getD lows kind 0 ⌝ }
+{
+    LOWS[kind]
+}
+
+fn high_of(kind: usize) -> u64
+    requires { ⌜ kind < 11 ⌝ }
+    ensures { λ r. ⌜ r ≡ getD highs kind 0 ⌝ }
+{
+    HIGHS[kind]
+}
+
+fn place_after(kind: usize, place: u64) -> u64
+    requires { ⌜ kind < 11 ⌝ }
+    ensures { λ r. ⌜ r ≡ place-after kind place ⌝ }
+{
+    if kind == 10 {
+        if 8 <= place {
+            return 7;
+        }
+        return 10;
+    }
+    NEXTS[kind]
+}
+
+fn stands(place: u64, kind: usize) -> bool
+    requires { ⌜ kind < 11 ⌝ }
+    ensures { λ r. ⌜ r ≡ within (getD lows kind 0) (getD highs kind 0) place ⌝ }
+{
+    if place < low_of(kind) {
+        return false;
+    }
+    place <= high_of(kind)
+}
+
+// Whether a line may follow at a place. I and H of the first line are unequal.
+fn may_stand(place: u64, e: Entry) -> bool
+    ensures { λ r. ⌜ ((vs : List ℕ) → Stored (e .vals) (e .count) vs → r ≡ may-stand place (e .form) vs) ⌝ }
+{
+    let form = e.form;
+    let vals = e.vals;
+    let kind = kind_of(form);
+    if stands(place, kind) {
+        if form == 0 {
+            return vals[6] != vals[7];
+        }
+        return true;
+    }
+    false
+}
+
+// The limit that a line meets by itself: 2 for a signature of more than 16 parameters, 3 for LOCALS over 32; else 0.
+fn own_limit(e: Entry) -> u64
+    ensures { λ r. ⌜ ((vs : List ℕ) → Stored (e .vals) (e .count) vs → own-limit (e .form) vs ≡ limit-of r) × (r ≤ 3) × (r ≡ 1 → ⊥) ⌝ }
+{
+    let form = e.form;
+    let vals = e.vals;
+    let n = e.count;
+    if form == 7 {
+        if 18 < n {
+            return 2;
+        }
+        return 0;
+    }
+    if form == 8 {
+        if 32 < vals[1] {
+            return 3;
+        }
+    }
+    0
+}
+
+fn wide_size(x: usize) -> u64
+    ensures { λ r. ⌜ r ≡ x ⌝ }
+{
+    x as u64
+}
+
+// The first word of a line's row: 0 or 1 for a slot, the op's number, else how many values follow.
+fn head_word(form: usize, count: usize) -> u64
+    ensures { λ r. ⌜ r ≡ head-word form count ⌝ }
+{
+    if 11 <= form {
+        return wide_size(form - 11);
+    }
+    if form == 1 {
+        return 0;
+    }
+    if form == 2 {
+        return 1;
+    }
+    wide_size(count)
+}
+
+// The words of a line's row; a chunk's row says besides how many constants and instructions come before it.
+fn row_words(e: Entry, constants: u64, instructions: u64) -> [u64; 19]
+    ensures { λ r. ⌜ ((m : Module) (vs : List ℕ) (l : Line) → Stored (e .vals) (e .count) vs → Fits l (e .form) vs → own-limit (e .form) vs ≡ none → constants ≡ length (all-consts (m .chunks)) → instructions ≡ length (all-ops (m .chunks)) → Same-words r (row-words m (e .form) vs)) ⌝ }
+{
+    let form = e.form;
+    let mut words = e.vals;
+    words[0] = head_word(form, e.count);
+    if form == 8 {
+        words[2] = constants;
+        words[3] = instructions;
+        return words;
+    }
+    words
+}
+
+// One line, from the tables before it to the tables after it.
+fn one_line(t: &mut [u64], place: u64, s: &[u8]) -> Step
+    requires { ⌜ (length (now t) ≡ size) × (length (now s) ≤ 65536) ⌝ }
+    ensures { λ r. ⌜ ((n : ℕ) (q : Reader) → q .place ≡ place → Held (now (t .entry)) (lists q) → Sound q → StepIs n (next-line n q (now (s .entry))) r (now (t .exit))) × (length (now (t .exit)) ≡ size) ⌝ }
+{
+    let e = read_entry(s);
+    if 86 <= e.form {
+        return Step::Wrong;
+    }
+    if !may_stand(place, e) {
+        return Step::Wrong;
+    }
+    let k = kind_of(e.form);
+    if k == 10 {
+        return Step::On(place_after(k, place));
+    }
+    if bytecode::cap_of(k) <= t[k] {
+        return Step::Full;
+    }
+    let own = own_limit(e);
+    if own == 2 {
+        return Step::Full;
+    }
+    if own == 3 {
+        return Step::Locals;
+    }
+    let row = row_words(e, t[8], t[9]);
+    bytecode::append(t, k, &row);
+    Step::On(place_after(k, place))
+}
+
+// Where the line from `at` on ends: at its LF, or with the bytes.
+fn line_end(s: &[u8], at: usize) -> usize
+    requires { ⌜ at ≤ length (now s) ⌝ }
+    ensures { λ r. ⌜ Line-end (now (s .entry)) at r ⌝ }
+{
+    let mut i = at;
+    while i < s.len() {
+        if s[i] == 10 {
+            return i;
+        }
+        i += 1;
+    }
+    i
+}
+
+// What reading a listing gives: its module is in the tables; or a line cannot follow, after so many others, or the end is missing; or a limit.
+pub enum Reading {
+    Module,
+    Line(u64),
+    Limit(u64),
+}
+
+// No table has a row.
+fn clear(t: &mut [u64])
+    requires { ⌜ length (now t) ≡ size ⌝ }
+    ensures { λ r. ⌜ Held (now (t .exit)) (lists at-start) ⌝ }
+{
+    let mut k = 0;
+    while k < 10 {
+        t[k] = 0;
+        k += 1;
+    }
+}
+
+// Lines from the first on, each after the tables of those before it.
+fn read_lines(s: &[u8], t: &mut [u64]) -> Reading
+    requires { ⌜ (length (now s) ≤ 65536) × Held (now t) (lists at-start) ⌝ }
+    ensures { λ r. ⌜ Read-is (read-all (now (s .entry))) r (now (t .exit)) ⌝ }
+{
+    let mut place: u64 = 0;
+    let mut lines: u64 = 0;
+    let mut at = 0;
+    while at < s.len() {
+        let e = line_end(s, at);
+        if s.len() <= e {
+            return Reading::Line(lines);
+        }
+        let step = one_line(t, place, &s[at..e]);
+        match step {
+            Step::On(p) => {
+                place = p;
+                lines += 1;
+                at = e + 1;
+            }
+            Step::Wrong => {
+                return Reading::Line(lines);
+            }
+            Step::Full => {
+                return Reading::Limit(2);
+            }
+            Step::Locals => {
+                return Reading::Limit(3);
+            }
+        }
+    }
+    if place == 10 {
+        return Reading::Module;
+    }
+    Reading::Line(lines)
+}
+
+// Reads a listing into lent tables, whatever they hold.
+pub fn read(s: &[u8], t: &mut [u64; 22232]) -> Reading
+    ensures { λ r. ⌜ (read-listing (now (s .entry)) ≡ result-of r (now (t .exit))) × Left-in r (now (t .exit)) ⌝ }
+{
+    if 65536 < s.len() {
+        return Reading::Limit(1);
+    }
+    clear(t);
+    read_lines(s, t)
+}

@@ -1,0 +1,196 @@
+-- The state in which a walk begins, the walk of a chunk, and of all.
+use mathlib.Core.Path.{_≡_, refl, sym, ap, _∙_, subst}
+use mathlib.Core.Bool.{Bool, true, false}
+use mathlib.Core.Option.{Option, none, some}
+use mathlib.Core.List.{List, [], _∷_, map}
+use mathlib.Core.Logic.{⊎-elim}
+use Prim.Native.Nat.{ℕ, zero, suc, _+_, _-_, _≤_, _<_}
+use native.Mathlib.Omega.{arith}
+use lib.ListN.{length, getD, set, replicate}
+use Rattle.definition.specs.Basics.{Result, ok, refused, _>>=_}
+use Rattle.definition.specs.Shapes.{Shape, unknown, from-wire}
+use Rattle.definition.specs.Instructions.{Chunk, Sig}
+use Rattle.definition.specs.Module.{no-sig}
+use Rattle.definition.specs.Walk.{State as AnyState, Sheets, Walked, no-break, params, start-locals, start, walk-chunk}
+use Rattle.definition.specs.Check.{in-chunk, walk-all}
+use Rattle.theorems.specs.Nested.{whole}
+use Rattle.theorems.specs.Fuel.{full, chunk-full}
+use Rattle.shapes.specs.declared.State.{State}
+use Rattle.shapes.specs.Model.{stateOf, stackOf, localsOf, withLocal}
+use Rattle.bytecode.specs.Lists.{tabulate}
+use Rattle.bytecode.specs.Meaning.{chunkOf, chunksOf, count, sigsOf, localsAt, locals-low, first-op, op-count, code-length, chunk-sig, chunk-locals}
+use Rattle.apply.specs.declared.Ctx.{Ctx}
+use Rattle.apply.specs.Answers.{Of}
+use Rattle.walk.specs.Outcomes.{numbers, pendingOf, breaksOf, flowOf, walkedOf, Open}
+use Rattle.walk.specs.Ready.{sheetsOf, Placed, Ready, chunkIn, Roomy, with-chunk, resultsOf}
+use Rattle.walk.specs.declared.Refusal.{Refusal}
+use Rattle.walk.specs.declared.Flow.{Flow}
+use Rattle.walk.specs.declared.Flow.the-variants.{Refused, Ended, Falls}
+use Rattle.walk.specs.declared.Pending.the-variants.{Nothing}
+use Rattle.walk.specs.declared.Breaks.{Breaks}
+use Rattle.walk.specs.declared.Outcome.{Outcome}
+
+-- ── Locals ────────────────────────────────────────────────────────────────────────────────
+
+pub param-is : (t : List ℕ) (x : Ctx) (i : ℕ) (v : Shape) → v ≡ getD (map from-wire (getD (sigsOf t) (x .chunk) no-sig .params)) i unknown → v ≡ getD (params (chunkIn t x)) i unknown
+unfolding params
+param-is t x i v e = e ∙ ap (λ (g : Sig). getD (map from-wire (g .params)) i unknown) (sym (chunk-sig t (x .chunk)))
+
+-- n locals of which the first i are parameters
+pub filled : ℕ → ℕ → List Shape → List Shape
+filled zero n ps = replicate n unknown
+filled (suc i) zero ps = []
+filled (suc i) (suc n) [] = unknown ∷ filled i n []
+filled (suc i) (suc n) (p ∷ ps) = p ∷ filled i n ps
+
+filled-all : (n : ℕ) (ps : List Shape) → filled n n ps ≡ start-locals n ps
+unfolding filled start-locals
+filled-all zero ps = refl
+filled-all (suc n) [] = ap (λ (l : List Shape). unknown ∷ l) (filled-all n [])
+filled-all (suc n) (p ∷ ps) = ap (λ (l : List Shape). p ∷ l) (filled-all n ps)
+
+filled-more : (i n : ℕ) (ps : List Shape) → i < n → set (filled i n ps) i (getD ps i unknown) ≡ filled (suc i) n ps
+unfolding filled
+filled-more i zero ps h = absurd (omega arith)
+filled-more zero (suc n) [] h = refl
+filled-more zero (suc n) (p ∷ ps) h = refl
+filled-more (suc i) (suc n) [] h = ap (λ (l : List Shape). unknown ∷ l) (filled-more i n [] (omega arith))
+filled-more (suc i) (suc n) (p ∷ ps) h = ap (λ (l : List Shape). p ∷ l) (filled-more i n ps (omega arith))
+
+-- the first i locals are set
+pub record Starting (locals i : ℕ) (ps : List Shape) (s : State) : Type 0 where
+  pub few : i ≤ locals
+  pub flat : s .height ≡ 0
+  pub state : stateOf locals s ≡ record { stack = []; locals = filled i locals ps }
+
+pub starting-none : (locals : ℕ) (ps : List Shape) (s : State) → s .height ≡ 0 → stateOf locals s ≡ record { stack = []; locals = replicate locals unknown } → Starting locals 0 ps s
+unfolding filled
+starting-none locals ps s h e = record { few = omega arith; flat = h; state = e }
+
+pub starting-more : (locals i : ℕ) (ps : List Shape) (s r : State) → i < locals → Starting locals i ps s → r .height ≡ s .height →
+    stateOf locals r ≡ withLocal i (getD ps i unknown) (stateOf locals s) → Starting locals (i + 1) ps r
+starting-more locals i ps s r h S g e =
+    record {
+      few = omega arith;
+      flat = g ∙ S .flat;
+      state =
+          e ∙ ap (withLocal i (getD ps i unknown)) (S .state)
+          ∙ ap (λ (l : List Shape). record { stack = []; locals = l }) (filled-more i locals ps h)
+          ∙ ap (λ (n : ℕ). record { stack = []; locals = filled n locals ps }) (let q : suc i ≡ i + 1 = omega arith in q);
+    }
+
+pub starting-all : (locals i : ℕ) (ps : List Shape) (s : State) → locals ≤ i → Starting locals i ps s → stateOf locals s ≡ record { stack = []; locals = start-locals locals ps }
+starting-all locals i ps s h S =
+    S .state
+    ∙ ap (λ (n : ℕ). record { stack = []; locals = filled n locals ps }) (let q : i ≡ locals = omega (arith, S .few) in q)
+    ∙ ap (λ (l : List Shape). record { stack = []; locals = l }) (filled-all locals ps)
+
+-- ── A chunk ───────────────────────────────────────────────────────────────────────────────
+
+module _ (t h b : List ℕ) (k : ℕ) (R : Roomy t h b k) (x : Ctx) (O : Of t k x) where
+  of-itself : Of t (x .chunk) x
+  of-itself = subst (λ (n : ℕ). Of t n x) (sym (O .chunk)) O
+
+  pub locals-few : x .locals ≤ 32
+  locals-few = omega (arith, O .locals, locals-low t k)
+
+  pub chunk-ready : (s : State) → s .height ≡ 0 → Ready t h b x 0 (x .length) 0 (s .height) (s .height)
+  chunk-ready s e =
+      record {
+        placed =
+            record {
+              of = of-itself;
+              heights-long = omega (arith, O .base, O .length, R .heights-long);
+              blinds-long = omega (arith, O .base, O .length, R .blinds-long);
+              nested = subst (λ (n : ℕ). Rattle.theorems.specs.Nested.Nested (chunkOf t n)) (sym (O .chunk)) (R .nested);
+            };
+        from = 0;
+        arm =
+            subst (λ (n : ℕ). Rattle.theorems.specs.Nested.Arm (chunkIn t x) 0 n)
+            (ap (λ (n : ℕ). length (chunkOf t n .code)) (O .chunk) ∙ code-length t k ∙ sym (O .length)) whole;
+        after = omega arith;
+        before = omega arith;
+        floor-low = omega arith;
+        height-low = omega arith;
+        breaks-low = omega arith;
+      }
+
+  pub chunk-walked : (s : State) (n : Breaks) (o : Outcome) (sh : Sheets) → stateOf (x .locals) s ≡ record { stack = []; locals = start-locals (x .locals) (params (chunkIn t x)) } →
+      n .pending ≡ Nothing →
+      walkedOf (x .locals) o sh ≡ full (chunkIn t x) 0 (x .length) 0 (stateOf (x .locals) s) (breaksOf (x .locals) n) (sheetsOf h b) →
+      walkedOf (localsAt t k) o sh ≡ walk-chunk (chunkOf t k) (sheetsOf h b)
+  unfolding pendingOf start
+  chunk-walked s n o sh e p w =
+      let c : Chunk = chunkOf t k in
+      let same : chunkIn t x ≡ c = ap (chunkOf t) (O .chunk) in
+      let l : x .locals ≡ c .locals = O .locals ∙ sym (chunk-locals t k) in
+      ap (λ (m : ℕ). walkedOf m o sh) (sym (O .locals)) ∙ w
+      ∙ ap (λ (q : _). full (chunkIn t x) 0 (x .length) 0 (stateOf (x .locals) s) (pendingOf (x .locals) n q) (sheetsOf h b)) p
+      ∙ ap (λ (z : AnyState). full (chunkIn t x) 0 (x .length) 0 z no-break (sheetsOf h b)) e
+      ∙ ap (λ (d : Chunk). full d 0 (x .length) 0 (record { stack = []; locals = start-locals (x .locals) (params d) }) no-break (sheetsOf h b)) same
+      ∙ ap (λ (m : ℕ). full c 0 (x .length) 0 (record { stack = []; locals = start-locals m (params c) }) no-break (sheetsOf h b)) l
+      ∙ ap (λ (m : ℕ). full c 0 m 0 (record { stack = []; locals = start-locals (c .locals) (params c) }) no-break (sheetsOf h b)) (O .length ∙ sym (code-length t k))
+      ∙ sym (chunk-full c (sheetsOf h b))
+
+-- ── All chunks ────────────────────────────────────────────────────────────────────────────
+
+pub roomy-by : (t h b h′ b′ : List ℕ) (k : ℕ) → length h′ ≡ length h → length b′ ≡ length b → Roomy t h b k → Roomy t h′ b′ k
+roomy-by t h b h′ b′ k e f R =
+    record { low = R .low; heights-long = omega (arith, R .heights-long); blinds-long = omega (arith, R .blinds-long); nested = R .nested }
+
+-- the chunks before k are walked
+pub record Walked-to (t h₀ b₀ h b : List ℕ) (k : ℕ) : Type 0 where
+  pub few : k ≤ count t 7
+  pub heights-same : length h ≡ length h₀
+  pub blinds-same : length b ≡ length b₀
+  pub on : walk-all 0 (chunksOf t) (sheetsOf h₀ b₀) ≡ walk-all k (tabulate k (count t 7 - k) (chunkOf t)) (sheetsOf h b)
+
+pub walked-none : (t h b : List ℕ) → Walked-to t h b h b 0
+unfolding chunksOf
+walked-none t h b =
+    record {
+      few = omega arith;
+      heights-same = refl;
+      blinds-same = refl;
+      on = ap (λ (n : ℕ). walk-all 0 (tabulate 0 n (chunkOf t)) (sheetsOf h b)) (let q : count t 7 ≡ count t 7 - 0 = omega arith in q);
+    }
+
+module _ (t h₀ b₀ h b : List ℕ) (k : ℕ) (W : Walked-to t h₀ b₀ h b k) (below : k < count t 7) (o : Outcome) (h′ b′ : List ℕ)
+    (C : walkedOf (localsAt t k) o (sheetsOf h′ b′) ≡ walk-chunk (chunkOf t k) (sheetsOf h b)) where
+  next-chunk : {f : Flow} → o .flow ≡ f →
+      walk-all 0 (chunksOf t) (sheetsOf h₀ b₀)
+      ≡ (in-chunk k (flowOf (localsAt t k) o (sheetsOf h′ b′) f) >>= λ (w : Walked). walk-all (suc k) (tabulate (suc k) (count t 7 - (k + 1)) (chunkOf t)) (w .sheets))
+  unfolding walk-all tabulate
+  next-chunk e =
+      W .on
+      ∙ ap (λ (n : ℕ). walk-all k (tabulate k n (chunkOf t)) (sheetsOf h b)) (let q : count t 7 - k ≡ suc (count t 7 - (k + 1)) = omega arith in q)
+      ∙ ap (λ (m : Result Walked). in-chunk k m >>= λ (w : Walked). walk-all (suc k) (tabulate (suc k) (count t 7 - (k + 1)) (chunkOf t)) (w .sheets))
+      (sym C ∙ ap (flowOf (localsAt t k) o (sheetsOf h′ b′)) e)
+
+  pub walked-refused : {r : Refusal} → o .flow ≡ Refused r → refused (with-chunk k (numbers r)) ≡ walk-all 0 (chunksOf t) (sheetsOf h₀ b₀)
+  unfolding flowOf in-chunk with-chunk _>>=_
+  walked-refused {r} e = sym (next-chunk e ∙ go (numbers r))
+    where
+      go : (ns : List ℕ) → (in-chunk k (refused ns) >>= λ (w : Walked). walk-all (suc k) (tabulate (suc k) (count t 7 - (k + 1)) (chunkOf t)) (w .sheets)) ≡ refused (with-chunk k ns)
+      go [] = refl
+      go (n ∷ ns) = refl
+
+  pub walked-more : Open (o .flow) → length h′ ≡ length h → length b′ ≡ length b → Walked-to t h₀ b₀ h′ b′ (k + 1)
+  unfolding flowOf in-chunk _>>=_
+  walked-more stays e f =
+      record {
+        few = omega arith;
+        heights-same = e ∙ W .heights-same;
+        blinds-same = f ∙ W .blinds-same;
+        on = go (o .flow) refl stays ∙ ap (λ (n : ℕ). walk-all n (tabulate n (count t 7 - (k + 1)) (chunkOf t)) (sheetsOf h′ b′)) (let q : suc k ≡ k + 1 = omega arith in q);
+      }
+    where
+      go : (g : Flow) → o .flow ≡ g → Open g →
+          walk-all 0 (chunksOf t) (sheetsOf h₀ b₀) ≡ walk-all (suc k) (tabulate (suc k) (count t 7 - (k + 1)) (chunkOf t)) (sheetsOf h′ b′)
+      go (Refused r) q x = absurd x
+      go Ended q x = next-chunk q
+      go Falls q x = next-chunk q
+
+pub walked-all : (t h₀ b₀ h b : List ℕ) (k : ℕ) → count t 7 ≤ k → Walked-to t h₀ b₀ h b k → ok (sheetsOf h b) ≡ walk-all 0 (chunksOf t) (sheetsOf h₀ b₀)
+unfolding walk-all tabulate
+walked-all t h₀ b₀ h b k e W = sym (W .on ∙ ap (λ (n : ℕ). walk-all k (tabulate k n (chunkOf t)) (sheetsOf h b)) (let q : count t 7 - k ≡ 0 = omega arith in q))

@@ -1,0 +1,33 @@
+use mathlib.Core.Path.{ap}
+use Prim.Native.Nat.{ℕ}
+use lib.ListN.{set}
+use Rattle.walk.proofs.Laws.{suc-is}
+use borrow.Author.Needs.{needs}
+use Rattle.walk.proofs.mark_height.Statement.{statement}
+use Rattle.walk.proofs.mark_height.Tie as tie
+use Rattle.walk.proofs.mark_height.Reads as reads
+use Rattle.walk.proofs.mark_height.Lts as lts
+
+-- src/lib.rt:198:20
+add-heights : tie.Need-add-heights
+add-heights c = search needs
+
+-- src/lib.rt:198:19
+cast-heights : tie.Need-cast-heights
+cast-heights c = search needs
+
+-- src/lib.rt:198:5
+slice-write-heights : tie.Need-slice-write-heights
+slice-write-heights c = search needs
+
+-- src/lib.rt:194:1
+same-length : tie.Need-same-length
+same-length c = search needs
+
+-- src/lib.rt:194:1
+returns : tie.Need-returns
+returns c = ap (λ (n : ℕ). set (c .args .heights .now) (c .args .at) n) (suc-is (c .args .h))
+
+pub mark-height-spec : {M : Type 1} → statement M
+mark-height-spec =
+    tie.close (tie.spec add-heights cast-heights slice-write-heights same-length returns)

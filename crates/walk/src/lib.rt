@@ -1,0 +1,860 @@
+// The walk of one chunk over the tables and the two lent sheets.
+ghost use mathlib.Core.Path.{_≡_};
+ghost use mathlib.Core.Bool.{Bool, true, false};
+ghost use mathlib.Core.Logic.{_≢_};
+ghost use Prim.Native.Nat.{ℕ, suc, _+_, _-_, _≤_, _<_};
+ghost use lib.ListN.{length, set, getD};
+ghost use mathlib.Core.List.{[], _∷_};
+ghost use mathlib.Core.Option.{some};
+ghost use Rattle.definition.specs.Basics.{ok, refused};
+ghost use Rattle.definition.specs.Instructions.{control, stops, breakIfTo, ifTo, loopTo};
+ghost use Rattle.definition.specs.Nesting.{else-at};
+ghost use Rattle.definition.specs.Shapes.{unknown};
+ghost use Rattle.definition.specs.Check.{walk-all};
+ghost use Rattle.definition.specs.Walk.{params, start-locals, walk-chunk, Sheets, forget, with-locals, walk-arms, add-break, join-ends, leave, last-end, mark-blind};
+ghost use Rattle.shapes.specs.Model.{stateOf, localsOf, withLocal};
+ghost use Rattle.walk.specs.Outcomes.{breaksOf, walkedOf, restOf, leftOf, elseOf, fallOf, meets, after-last, loopOf, after-loop, Open, Low};
+ghost use Rattle.walk.specs.declared.Flow.the-variants.{Refused};
+ghost use Rattle.walk.specs.declared.Refusal.the-variants.{Instruction, Misplaced};
+ghost use Rattle.bytecode.specs.Meaning.{first-op, op-count, localsAt, chunkOf, chunksOf, count};
+ghost use Rattle.theorems.specs.Fuel.{full};
+ghost use Rattle.apply.specs.Answers.{is-none, refusal};
+ghost use Rattle.walk.specs.Ready.{sheetsOf, Placed, Ready, chunkIn, instrIn, Examined, markIn, visitIn, straight, leads, Steps, Quietly, Goes, armsIn, lastIn, Roomy, resultsOf};
+use apply::Ctx;
+use apply::Step;
+use apply::Verdict;
+use shapes::State;
+
+// A refusal of the walk: of one instruction, or of a join, with the Rust's fields.
+pub enum Refusal {
+    Instruction(Verdict),
+    BranchHeightMismatch(usize, usize, usize),
+    LoopNotNeutral(usize, usize, usize),
+    Misplaced(usize),
+}
+
+// How a stretch was walked: refused, no path comes to its end, or it falls through.
+pub enum Flow {
+    Refused(Refusal),
+    Ended,
+    Falls,
+}
+
+// The breaks of a loop so far: none, one joined state, or the first unequal pair of heights.
+pub enum Pending {
+    Nothing,
+    Joined,
+    Unequal(usize, usize),
+}
+
+// The state counts only where the breaks are joined.
+pub struct Breaks {
+    pub pending: Pending,
+    pub state: State,
+}
+
+// The state counts only where the stretch falls through.
+pub struct Outcome {
+    pub flow: Flow,
+    pub state: State,
+    pub breaks: Breaks,
+}
+
+// What comes after an instruction with its blocks: where it falls through, the walk goes on at `next`.
+pub struct Onward {
+    pub next: usize,
+    pub out: Outcome,
+}
+
+pub enum Leaving {
+    Stopped(Refusal),
+    After,
+}
+
+// What the passes over a loop leave.
+pub struct Left {
+    pub leaving: Leaving,
+    pub state: State,
+}
+
+// The form of an If: one arm, or two and the place of its EndIf.
+pub enum Layout {
+    OneArm,
+    TwoArms(usize),
+}
+
+// One more break, in order.
+fn add_state(b: Breaks, s: State, locals: usize) -> Breaks
+    requires { ⌜ (b .state .height ≤ 64) × (s .height ≤ 64) × (locals ≤ 32) ⌝ }
+    ensures { λ r. ⌜ (breaksOf locals r ≡ add-break (breaksOf locals b) (stateOf locals s)) × (r .state .height ≤ 64) ⌝ }
+{
+    let p = b.pending;
+    let t = b.state;
+    match p {
+        Pending::Nothing => Breaks {
+            pending: Pending::Joined,
+            state: s,
+        },
+        Pending::Joined => {
+            let x = t.height;
+            let y = s.height;
+            if x == y {
+                let j = t.join(s, locals);
+                return Breaks {
+                    pending: Pending::Joined,
+                    state: j,
+                };
+            }
+            Breaks {
+                pending: Pending::Unequal(x, y),
+                state: t,
+            }
+        }
+        Pending::Unequal(_, _) => b,
+    }
+}
+
+// The ends of two arms of the If at ip, of which b was walked last.
+fn join_ends(a: Outcome, b: Outcome, ip: usize, locals: usize) -> Outcome
+    requires { ⌜ (a .state .height ≤ 64) × (b .state .height ≤ 64) × (b .breaks .state .height ≤ 64) × (locals ≤ 32) × Open (a .flow) × Open (b .flow) ⌝ }
+    ensures { λ r. ⌜ ((sh : Sheets) → walkedOf locals r sh ≡ meets ip (fallOf locals a (a .flow)) (fallOf locals b (b .flow)) (breaksOf locals (b .breaks)) sh) × Low r ⌝ }
+{
+    let f = a.flow;
+    let g = b.flow;
+    match f {
+        Flow::Refused(_) => b,
+        Flow::Ended => b,
+        Flow::Falls => match g {
+            Flow::Refused(_) => b,
+            Flow::Ended => {
+                let s = a.state;
+                let k = b.breaks;
+                Outcome {
+                    flow: Flow::Falls,
+                    state: s,
+                    breaks: k,
+                }
+            }
+            Flow::Falls => join_states(a, b, ip, locals),
+        },
+    }
+}
+
+fn join_states(a: Outcome, b: Outcome, ip: usize, locals: usize) -> Outcome
+    requires { ⌜ (a .state .height ≤ 64) × (b .state .height ≤ 64) × (b .breaks .state .height ≤ 64) × (locals ≤ 32) ⌝ }
+    ensures { λ r. ⌜ ((sh : Sheets) → walkedOf locals r sh ≡ meets ip (some (stateOf locals (a .state))) (some (stateOf locals (b .state))) (breaksOf locals (b .breaks)) sh) × Low r ⌝ }
+{
+    let s = a.state;
+    let t = b.state;
+    let k = b.breaks;
+    let x = s.height;
+    let y = t.height;
+    if x == y {
+        let j = s.join(t, locals);
+        return Outcome {
+            flow: Flow::Falls,
+            state: j,
+            breaks: k,
+        };
+    }
+    Outcome {
+        flow: Flow::Refused(Refusal::BranchHeightMismatch(ip, x, y)),
+        state: s,
+        breaks: k,
+    }
+}
+
+// After the loop at ip: its breaks, or what stands otherwise.
+fn leave_loop(k: Breaks, otherwise: State, ip: usize, locals: usize) -> Left
+    requires { ⌜ (k .state .height ≤ 64) × (otherwise .height ≤ 64) ⌝ }
+    ensures { λ r. ⌜ ((sh : Sheets) → leftOf locals r sh ≡ leave ip (breaksOf locals k) sh (stateOf locals otherwise)) × (r .state .height ≤ 64) ⌝ }
+{
+    let p = k.pending;
+    let s = k.state;
+    match p {
+        Pending::Nothing => Left {
+            leaving: Leaving::After,
+            state: otherwise,
+        },
+        Pending::Joined => Left {
+            leaving: Leaving::After,
+            state: s,
+        },
+        Pending::Unequal(x, y) => Left {
+            leaving: Leaving::Stopped(Refusal::BranchHeightMismatch(ip, x, y)),
+            state: otherwise,
+        },
+    }
+}
+
+// The end of a body that does not have the operands of its head.
+fn not_neutral(ip: usize, head: State, end: State) -> Left
+    ensures { λ r. ⌜ ((locals : ℕ) (sh : Sheets) → leftOf locals r sh ≡ refused (11 ∷ ip ∷ head .height ∷ end .height ∷ [])) × (r .state ≡ head) ⌝ }
+{
+    let x = head.height;
+    let y = end.height;
+    Left {
+        leaving: Leaving::Stopped(Refusal::LoopNotNeutral(ip, x, y)),
+        state: head,
+    }
+}
+
+// After the last pass over the loop at ip, from a head.
+fn last_end(o: Outcome, head: State, ip: usize, locals: usize) -> Left
+    requires { ⌜ Low o × (head .height ≤ 64) × (locals ≤ 32) ⌝ }
+    ensures { λ r. ⌜ ((sh : Sheets) → leftOf locals r sh ≡ after-last ip (stateOf locals head) (walkedOf locals o sh)) × (r .state .height ≤ 64) ⌝ }
+{
+    let f = o.flow;
+    let k = o.breaks;
+    let e = o.state;
+    match f {
+        Flow::Refused(r) => Left {
+            leaving: Leaving::Stopped(r),
+            state: head,
+        },
+        Flow::Ended => leave_loop(k, head, ip, locals),
+        Flow::Falls => {
+            if e.same_stack(head) {
+                return leave_loop(k, e, ip, locals);
+            }
+            not_neutral(ip, head, e)
+        }
+    }
+}
+
+// The height sheet holds 1 + the height before an instruction that is examined.
+fn mark_height(heights: &mut [u8], at: usize, h: usize)
+    requires { ⌜ (at < length (now heights)) × (h ≤ 64) ⌝ }
+    ensures { λ r. ⌜ now (heights .exit) ≡ set (now (heights .entry)) at (suc h) ⌝ }
+{
+    heights[at] = (h + 1) as u8;
+}
+
+// The blind sheet holds 1 where a flat access met an unknown operand; a mark is never cleared.
+fn mark_blind(blinds: &mut [u8], at: usize, blind: bool)
+    requires { ⌜ at < length (now blinds) ⌝ }
+    ensures { λ r. ⌜ now (blinds .exit) ≡ mark-blind blind at (now (blinds .entry)) ⌝ }
+{
+    if blind {
+        blinds[at] = 1;
+    }
+}
+
+// The examination of the instruction at ip, with both sheets marked.
+fn examine_at(
+    t: &[u64],
+    heights: &mut [u8],
+    blinds: &mut [u8],
+    x: Ctx,
+    ip: usize,
+    floor: usize,
+    s: State,
+) -> Step
+    requires { ⌜ Placed (now t) (now heights) (now blinds) x ⌝ }
+    requires { ⌜ (ip < x .length) × (floor ≤ 64) × (s .height ≤ 64) ⌝ }
+    ensures { λ r. ⌜ Examined (now (t .entry)) x ip floor s r × (is-none (refusal (r .verdict)) ≡ true → sheetsOf (now (heights .exit)) (now (blinds .exit)) ≡ markIn (now (t .entry)) x ip s (sheetsOf (now (heights .entry)) (now (blinds .entry)))) ⌝ }
+{
+    let base = x.base;
+    let i = bytecode::instr_at(t, base + ip);
+    let r = apply::examine(t, x, i, s, floor, ip);
+    let h = s.height;
+    let blind = r.blind;
+    mark_height(heights, base + ip, h);
+    mark_blind(blinds, base + ip, blind);
+    r
+}
+
+// Whether a code leads onward and opens nothing.
+fn is_straight(code: u8) -> bool
+    ensures { λ r. ⌜ r ≡ straight code ⌝ }
+{
+    if code < 64 {
+        return true;
+    }
+    if code == 72 {
+        return true;
+    }
+    code == 73
+}
+
+// The form of the If at ip.
+fn layout_of(t: &[u64], x: Ctx, ip: usize, target: usize) -> Layout
+    requires { ⌜ (x .base ≡ first-op (now t) (x .chunk)) × (x .length ≡ op-count (now t) (x .chunk)) × (x .base + x .length ≤ 4096) × (ip < x .length) ⌝ }
+    ensures { λ r. ⌜ elseOf r ≡ else-at (chunkIn (now (t .entry)) x) ip target ⌝ }
+{
+    let n = x.length;
+    let base = x.base;
+    if target <= ip + 1 {
+        return Layout::OneArm;
+    }
+    let at = target - 1;
+    if n <= at {
+        return Layout::OneArm;
+    }
+    let i = bytecode::instr_at(t, base + at);
+    let code = i.code;
+    let a = i.a;
+    if code == 67 {
+        return Layout::TwoArms(a as usize);
+    }
+    Layout::OneArm
+}
+
+// The local that the instruction at p writes becomes unknown.
+fn invalidate_local(t: &[u64], x: Ctx, p: usize, s: State) -> State
+    requires { ⌜ (x .base ≡ first-op (now t) (x .chunk)) × (x .length ≡ op-count (now t) (x .chunk)) × (x .base + x .length ≤ 4096) × (p < x .length) × (x .locals ≤ 32) × (s .height ≤ 64) ⌝ }
+    ensures { λ r. ⌜ (r .height ≡ s .height) × (stateOf (x .locals) r ≡ with-locals (stateOf (x .locals) s) (forget (chunkIn (now (t .entry)) x) p 1 (localsOf (x .locals) s))) ⌝ }
+{
+    let base = x.base;
+    let locals = x.locals;
+    let i = bytecode::instr_at(t, base + p);
+    let code = i.code;
+    let a = i.a;
+    if code == 5 {
+        return s.forget_local(a as usize, locals);
+    }
+    s
+}
+
+// Each local that an instruction from start to before end writes becomes unknown.
+fn invalidate_written_locals(t: &[u64], x: Ctx, start: usize, end: usize, head: State) -> State
+    requires { ⌜ (x .base ≡ first-op (now t) (x .chunk)) × (x .length ≡ op-count (now t) (x .chunk)) × (x .base + x .length ≤ 4096) × (end ≤ x .length) × (x .locals ≤ 32) × (head .height ≤ 64) ⌝ }
+    ensures { λ r. ⌜ (r .height ≡ head .height) × (stateOf (x .locals) r ≡ with-locals (stateOf (x .locals) head) (forget (chunkIn (now (t .entry)) x) start (end - start) (localsOf (x .locals) head))) ⌝ }
+{
+    let mut s = head;
+    let mut p = start;
+    while p < end {
+        s = invalidate_local(t, x, p, s);
+        p += 1;
+    }
+    s
+}
+
+// The instruction at ip was refused.
+fn refused_at(v: Verdict, ip: usize, s: State, b: Breaks) -> Onward
+    requires { ⌜ ip < 4096 ⌝ }
+    ensures { λ r. ⌜ (r .next ≡ ip + 1) × (r .out .flow ≡ Refused (Instruction v)) × (r .out .state ≡ s) × (r .out .breaks ≡ b) ⌝ }
+{
+    Onward {
+        next: ip + 1,
+        out: Outcome {
+            flow: Flow::Refused(Refusal::Instruction(v)),
+            state: s,
+            breaks: b,
+        },
+    }
+}
+
+// A Trap: the path ends with it.
+fn trap_at(
+    t: &[u64],
+    heights: &mut [u8],
+    blinds: &mut [u8],
+    x: Ctx,
+    ip: usize,
+    floor: usize,
+    s: State,
+    b: Breaks,
+) -> Onward
+    requires { ⌜ Placed (now t) (now heights) (now blinds) x ⌝ }
+    requires { ⌜ (ip < x .length) × (floor ≤ 64) × (s .height ≤ 64) × (b .state .height ≤ 64) ⌝ }
+    ensures { λ r. ⌜ ((end : ℕ) → visitIn (now (t .entry)) x ip end floor s b (sheetsOf (now (heights .entry)) (now (blinds .entry))) stops ≡ restOf (chunkIn (now (t .entry)) x) (x .locals) end floor r (sheetsOf (now (heights .exit)) (now (blinds .exit)))) × Steps ip r ⌝ }
+{
+    let e = examine_at(t, heights, blinds, x, ip, floor, s);
+    let v = e.verdict;
+    if v.passed() {
+        return Onward {
+            next: ip + 1,
+            out: Outcome {
+                flow: Flow::Ended,
+                state: s,
+                breaks: b,
+            },
+        };
+    }
+    refused_at(v, ip, s, b)
+}
+
+// A BreakIf: the state after it is a break, and goes on.
+fn break_if_at(
+    t: &[u64],
+    heights: &mut [u8],
+    blinds: &mut [u8],
+    x: Ctx,
+    target: usize,
+    ip: usize,
+    floor: usize,
+    s: State,
+    b: Breaks,
+) -> Onward
+    requires { ⌜ Placed (now t) (now heights) (now blinds) x ⌝ }
+    requires { ⌜ (ip < x .length) × (floor ≤ 64) × (s .height ≤ 64) × (b .state .height ≤ 64) ⌝ }
+    ensures { λ r. ⌜ ((end : ℕ) → visitIn (now (t .entry)) x ip end floor s b (sheetsOf (now (heights .entry)) (now (blinds .entry))) (breakIfTo target) ≡ restOf (chunkIn (now (t .entry)) x) (x .locals) end floor r (sheetsOf (now (heights .exit)) (now (blinds .exit)))) × Steps ip r ⌝ }
+{
+    let locals = x.locals;
+    let e = examine_at(t, heights, blinds, x, ip, floor, s);
+    let v = e.verdict;
+    if v.passed() {
+        let u = e.state;
+        let k = add_state(b, u, locals);
+        return Onward {
+            next: ip + 1,
+            out: Outcome {
+                flow: Flow::Falls,
+                state: u,
+                breaks: k,
+            },
+        };
+    }
+    refused_at(v, ip, s, b)
+}
+
+// A Break, or a Return: examined without a test, and the path ends there.
+fn quiet_at(heights: &mut [u8], x: Ctx, code: u8, ip: usize, s: State, b: Breaks) -> Onward
+    requires { ⌜ (x .base + x .length ≤ length (now heights)) × (x .base + x .length ≤ 4096) × (ip < x .length) × (x .locals ≤ 32) × (s .height ≤ 64) × (b .state .height ≤ 64) ⌝ }
+    ensures { λ r. ⌜ Quietly x code ip s b (now (heights .entry)) (now (heights .exit)) r × Steps ip r ⌝ }
+{
+    let base = x.base;
+    let locals = x.locals;
+    let h = s.height;
+    mark_height(heights, base + ip, h);
+    if code == 71 {
+        let k = add_state(b, s, locals);
+        return Onward {
+            next: ip + 1,
+            out: Outcome {
+                flow: Flow::Ended,
+                state: s,
+                breaks: k,
+            },
+        };
+    }
+    Onward {
+        next: ip + 1,
+        out: Outcome {
+            flow: Flow::Ended,
+            state: s,
+            breaks: b,
+        },
+    }
+}
+
+// A closer: no walk of a nested chunk comes to one.
+fn misplaced_at(ip: usize, s: State, b: Breaks) -> Onward
+    requires { ⌜ (ip < 4096) × (s .height ≤ 64) × (b .state .height ≤ 64) ⌝ }
+    ensures { λ r. ⌜ (r .out .flow ≡ Refused (Misplaced ip)) × Steps ip r ⌝ }
+{
+    Onward {
+        next: ip + 1,
+        out: Outcome {
+            flow: Flow::Refused(Refusal::Misplaced(ip)),
+            state: s,
+            breaks: b,
+        },
+    }
+}
+
+// An instruction that leads elsewhere, or nowhere, and opens no block.
+fn leaf_at(
+    t: &[u64],
+    heights: &mut [u8],
+    blinds: &mut [u8],
+    x: Ctx,
+    code: u8,
+    target: usize,
+    ip: usize,
+    floor: usize,
+    s: State,
+    b: Breaks,
+) -> Onward
+    requires { ⌜ Placed (now t) (now heights) (now blinds) x ⌝ }
+    requires { ⌜ (ip < x .length) × (floor ≤ 64) × (s .height ≤ 64) × (b .state .height ≤ 64) × (code < 75) × (straight code ≡ false) × (code ≢ 65) × (code ≢ 69) ⌝ }
+    requires { ⌜ control (instrIn (now t) x ip) ≡ leads code target ⌝ }
+    ensures { λ r. ⌜ ((end : ℕ) → visitIn (now (t .entry)) x ip end floor s b (sheetsOf (now (heights .entry)) (now (blinds .entry))) (leads code target) ≡ restOf (chunkIn (now (t .entry)) x) (x .locals) end floor r (sheetsOf (now (heights .exit)) (now (blinds .exit)))) × Steps ip r ⌝ }
+{
+    match code {
+        64 => trap_at(t, heights, blinds, x, ip, floor, s, b),
+        66 => break_if_at(t, heights, blinds, x, target, ip, floor, s, b),
+        71 => quiet_at(heights, x, code, ip, s, b),
+        74 => quiet_at(heights, x, code, ip, s, b),
+        _ => misplaced_at(ip, s, b),
+    }
+}
+
+// The walk of the instructions from start to before end. A path that comes to the end falls through.
+pub fn interp_region(
+    t: &[u64],
+    heights: &mut [u8],
+    blinds: &mut [u8],
+    x: Ctx,
+    start: usize,
+    end: usize,
+    floor: usize,
+    s0: State,
+    b0: Breaks,
+) -> Outcome
+    requires { ⌜ Ready (now t) (now heights) (now blinds) x start end floor (s0 .height) (b0 .state .height) ⌝ }
+    ensures { λ r. ⌜ (walkedOf (x .locals) r (sheetsOf (now (heights .exit)) (now (blinds .exit))) ≡ full (chunkIn (now (t .entry)) x) start end floor (stateOf (x .locals) s0) (breaksOf (x .locals) b0) (sheetsOf (now (heights .entry)) (now (blinds .entry)))) × Low r ⌝ }
+{
+    let base = x.base;
+    let mut ip = start;
+    let mut s = s0;
+    let mut b = b0;
+    while ip < end {
+        let i = bytecode::instr_at(t, base + ip);
+        let code = i.code;
+        let a = i.a;
+        if is_straight(code) {
+            let e = examine_at(t, heights, blinds, x, ip, floor, s);
+            let v = e.verdict;
+            if v.passed() {} else {
+                return Outcome {
+                    flow: Flow::Refused(Refusal::Instruction(v)),
+                    state: s,
+                    breaks: b,
+                };
+            }
+            s = e.state;
+            ip += 1;
+        } else {
+            let n = block_at(
+                t,
+                heights,
+                blinds,
+                x,
+                code,
+                a as usize,
+                ip,
+                end,
+                floor,
+                s,
+                b,
+            );
+            let o = n.out;
+            let f = o.flow;
+            match f {
+                Flow::Falls => {}
+                Flow::Ended => {
+                    return o;
+                }
+                Flow::Refused(_) => {
+                    return o;
+                }
+            }
+            s = o.state;
+            b = o.breaks;
+            ip = n.next;
+        }
+    }
+    Outcome {
+        flow: Flow::Falls,
+        state: s,
+        breaks: b,
+    }
+}
+
+// The instruction at ip that does not simply lead onward, with the blocks that it opens.
+fn block_at(
+    t: &[u64],
+    heights: &mut [u8],
+    blinds: &mut [u8],
+    x: Ctx,
+    code: u8,
+    target: usize,
+    ip: usize,
+    end: usize,
+    floor: usize,
+    s: State,
+    b: Breaks,
+) -> Onward
+    requires { ⌜ Ready (now t) (now heights) (now blinds) x ip end floor (s .height) (b .state .height) ⌝ }
+    requires { ⌜ (ip < end) × (code < 75) × (straight code ≡ false) × (control (instrIn (now t) x ip) ≡ leads code target) ⌝ }
+    ensures { λ r. ⌜ (restOf (chunkIn (now (t .entry)) x) (x .locals) end floor r (sheetsOf (now (heights .exit)) (now (blinds .exit))) ≡ visitIn (now (t .entry)) x ip end floor s b (sheetsOf (now (heights .entry)) (now (blinds .entry))) (leads code target)) × Goes ip end r ⌝ }
+{
+    match code {
+        65 => if_at(t, heights, blinds, x, target, ip, end, floor, s, b),
+        69 => loop_at(t, heights, blinds, x, target, ip, end, floor, s, b),
+        _ => leaf_at(t, heights, blinds, x, code, target, ip, floor, s, b),
+    }
+}
+
+// An If: its condition, then its arms.
+fn if_at(
+    t: &[u64],
+    heights: &mut [u8],
+    blinds: &mut [u8],
+    x: Ctx,
+    target: usize,
+    ip: usize,
+    end: usize,
+    floor: usize,
+    s: State,
+    b: Breaks,
+) -> Onward
+    requires { ⌜ Ready (now t) (now heights) (now blinds) x ip end floor (s .height) (b .state .height) ⌝ }
+    requires { ⌜ (ip < end) × (control (instrIn (now t) x ip) ≡ ifTo target) ⌝ }
+    ensures { λ r. ⌜ (restOf (chunkIn (now (t .entry)) x) (x .locals) end floor r (sheetsOf (now (heights .exit)) (now (blinds .exit))) ≡ visitIn (now (t .entry)) x ip end floor s b (sheetsOf (now (heights .entry)) (now (blinds .entry))) (ifTo target)) × Goes ip end r ⌝ }
+{
+    let e = examine_at(t, heights, blinds, x, ip, floor, s);
+    let v = e.verdict;
+    if v.passed() {} else {
+        return refused_at(v, ip, s, b);
+    }
+    let u = e.state;
+    arms_at(t, heights, blinds, x, target, ip, end, floor, u, b)
+}
+
+// The arms of the If at ip, from the state after its condition.
+fn arms_at(
+    t: &[u64],
+    heights: &mut [u8],
+    blinds: &mut [u8],
+    x: Ctx,
+    target: usize,
+    ip: usize,
+    end: usize,
+    floor: usize,
+    s: State,
+    b: Breaks,
+) -> Onward
+    requires { ⌜ Ready (now t) (now heights) (now blinds) x ip end floor (s .height) (b .state .height) ⌝ }
+    requires { ⌜ (ip < end) × (control (instrIn (now t) x ip) ≡ ifTo target) ⌝ }
+    ensures { λ r. ⌜ (restOf (chunkIn (now (t .entry)) x) (x .locals) end floor r (sheetsOf (now (heights .exit)) (now (blinds .exit))) ≡ armsIn (now (t .entry)) x target ip end floor s b (sheetsOf (now (heights .entry)) (now (blinds .entry)))) × Goes ip end r ⌝ }
+{
+    let locals = x.locals;
+    let l = layout_of(t, x, ip, target);
+    match l {
+        Layout::OneArm => {
+            let a = interp_region(t, heights, blinds, x, ip + 1, target, floor, s, b);
+            let f = a.flow;
+            if let Flow::Refused(_) = f {
+                return Onward {
+                    next: target + 1,
+                    out: a,
+                };
+            }
+            let k = a.breaks;
+            let skip = Outcome {
+                flow: Flow::Falls,
+                state: s,
+                breaks: k,
+            };
+            let m = join_ends(a, skip, ip, locals);
+            Onward {
+                next: target + 1,
+                out: m,
+            }
+        }
+        Layout::TwoArms(closer) => {
+            let a = interp_region(t, heights, blinds, x, ip + 1, target - 1, floor, s, b);
+            let f = a.flow;
+            if let Flow::Refused(_) = f {
+                return Onward {
+                    next: closer + 1,
+                    out: a,
+                };
+            }
+            let k = a.breaks;
+            let e = interp_region(t, heights, blinds, x, target, closer, floor, s, k);
+            let g = e.flow;
+            if let Flow::Refused(_) = g {
+                return Onward {
+                    next: closer + 1,
+                    out: e,
+                };
+            }
+            let m = join_ends(a, e, ip, locals);
+            Onward {
+                next: closer + 1,
+                out: m,
+            }
+        }
+    }
+}
+
+// The loop at ip: examined without a test, then the passes over its body.
+fn loop_at(
+    t: &[u64],
+    heights: &mut [u8],
+    blinds: &mut [u8],
+    x: Ctx,
+    target: usize,
+    ip: usize,
+    end: usize,
+    floor: usize,
+    s: State,
+    b: Breaks,
+) -> Onward
+    requires { ⌜ Ready (now t) (now heights) (now blinds) x ip end floor (s .height) (b .state .height) ⌝ }
+    requires { ⌜ (ip < end) × (control (instrIn (now t) x ip) ≡ loopTo target) ⌝ }
+    ensures { λ r. ⌜ (restOf (chunkIn (now (t .entry)) x) (x .locals) end floor r (sheetsOf (now (heights .exit)) (now (blinds .exit))) ≡ visitIn (now (t .entry)) x ip end floor s b (sheetsOf (now (heights .entry)) (now (blinds .entry))) (loopTo target)) × Goes ip end r ⌝ }
+{
+    let base = x.base;
+    let h = s.height;
+    mark_height(heights, base + ip, h);
+    let l = passes_at(t, heights, blinds, x, ip, target, s);
+    let f = l.leaving;
+    let u = l.state;
+    match f {
+        Leaving::Stopped(r) => Onward {
+            next: target,
+            out: Outcome {
+                flow: Flow::Refused(r),
+                state: u,
+                breaks: b,
+            },
+        },
+        Leaving::After => Onward {
+            next: target,
+            out: Outcome {
+                flow: Flow::Falls,
+                state: u,
+                breaks: b,
+            },
+        },
+    }
+}
+
+// The passes over the body of the loop at ip: the head is stable, the body has no end, or the last pass is made.
+fn passes_at(
+    t: &[u64],
+    heights: &mut [u8],
+    blinds: &mut [u8],
+    x: Ctx,
+    ip: usize,
+    exit: usize,
+    s0: State,
+) -> Left
+    requires { ⌜ Placed (now t) (now heights) (now blinds) x ⌝ }
+    requires { ⌜ (ip + 1 < exit) × (exit ≤ x .length) × (s0 .height ≤ 64) × (control (instrIn (now t) x ip) ≡ loopTo exit) ⌝ }
+    ensures { λ r. ⌜ (leftOf (x .locals) r (sheetsOf (now (heights .exit)) (now (blinds .exit))) ≡ loopOf (chunkIn (now (t .entry)) x) ip exit (stateOf (x .locals) s0) (sheetsOf (now (heights .entry)) (now (blinds .entry)))) × (r .state .height ≤ 64) ⌝ }
+{
+    let locals = x.locals;
+    let floor = s0.height;
+    let no_breaks = Breaks {
+        pending: Pending::Nothing,
+        state: s0,
+    };
+    let body = ip + 1;
+    let last = exit - 1;
+    let mut head = s0;
+    let mut left = locals + 2;
+    let done = 'passes: loop {
+        let o = interp_region(t, heights, blinds, x, body, last, floor, head, no_breaks);
+        let f = o.flow;
+        let k = o.breaks;
+        match f {
+            Flow::Falls => {}
+            Flow::Ended => {
+                break 'passes leave_loop(k, head, ip, locals);
+            }
+            Flow::Refused(r) => {
+                return Left {
+                    leaving: Leaving::Stopped(r),
+                    state: head,
+                };
+            }
+        }
+        let e = o.state;
+        if e.same_stack(head) {} else {
+            return not_neutral(ip, head, e);
+        }
+        if head.covers_locals(e, locals) {
+            break 'passes leave_loop(k, e, ip, locals);
+        }
+        if left == 0 {
+            break 'passes last_pass(t, heights, blinds, x, ip, exit, floor, head);
+        }
+        head = head.join_locals(e, locals);
+        left -= 1;
+    };
+    done
+}
+
+// The last pass over the body of the loop at ip: each local that it writes is forgotten before it.
+fn last_pass(
+    t: &[u64],
+    heights: &mut [u8],
+    blinds: &mut [u8],
+    x: Ctx,
+    ip: usize,
+    exit: usize,
+    floor: usize,
+    head: State,
+) -> Left
+    requires { ⌜ Placed (now t) (now heights) (now blinds) x ⌝ }
+    requires { ⌜ (ip + 1 < exit) × (exit ≤ x .length) × (floor ≤ 64) × (head .height ≤ 64) × (control (instrIn (now t) x ip) ≡ loopTo exit) ⌝ }
+    ensures { λ r. ⌜ (leftOf (x .locals) r (sheetsOf (now (heights .exit)) (now (blinds .exit))) ≡ lastIn (now (t .entry)) x ip exit floor head (sheetsOf (now (heights .entry)) (now (blinds .entry)))) × (r .state .height ≤ 64) ⌝ }
+{
+    let locals = x.locals;
+    let body = ip + 1;
+    let last = exit - 1;
+    let lost = invalidate_written_locals(t, x, body, last, head);
+    let no_breaks = Breaks {
+        pending: Pending::Nothing,
+        state: lost,
+    };
+    let o = interp_region(t, heights, blinds, x, body, last, floor, lost, no_breaks);
+    last_end(o, lost, ip, locals)
+}
+
+// Local i starts as the parameter of its number, or unknown.
+fn start_local(t: &[u64], x: Ctx, i: usize, s: State) -> State
+    requires { ⌜ (x .locals ≤ 32) × (s .height ≤ 64) ⌝ }
+    ensures { λ r. ⌜ (r .height ≡ s .height) × (stateOf (x .locals) r ≡ withLocal i (getD (params (chunkIn (now (t .entry)) x)) i unknown) (stateOf (x .locals) s)) ⌝ }
+{
+    let k = x.chunk;
+    let locals = x.locals;
+    let v = apply::wire_value(bytecode::sig_param(t, k, i));
+    s.set_local(i, v, locals)
+}
+
+// The state in which the walk of a chunk begins.
+fn start_state(t: &[u64], x: Ctx) -> State
+    requires { ⌜ x .locals ≤ 32 ⌝ }
+    ensures { λ r. ⌜ (r .height ≡ 0) × (stateOf (x .locals) r ≡ record { stack = []; locals = start-locals (x .locals) (params (chunkIn (now (t .entry)) x)) }) ⌝ }
+{
+    let locals = x.locals;
+    let mut s = shapes::empty_state();
+    let mut i = 0;
+    while i < locals {
+        s = start_local(t, x, i, s);
+        i += 1;
+    }
+    s
+}
+
+// The walk of chunk k.
+pub fn walk_chunk(t: &[u64], heights: &mut [u8], blinds: &mut [u8], k: usize) -> Outcome
+    requires { ⌜ Roomy (now t) (now heights) (now blinds) k ⌝ }
+    ensures { λ r. ⌜ walkedOf (localsAt (now (t .entry)) k) r (sheetsOf (now (heights .exit)) (now (blinds .exit))) ≡ walk-chunk (chunkOf (now (t .entry)) k) (sheetsOf (now (heights .entry)) (now (blinds .entry))) ⌝ }
+{
+    let x = apply::context(t, k);
+    let end = x.length;
+    let s = start_state(t, x);
+    let b = Breaks { pending: Pending::Nothing, state: s };
+    interp_region(t, heights, blinds, x, 0, end, 0, s, b)
+}
+
+// The walk of all chunks: the first that is refused, with its number.
+pub enum Walk {
+    Accepted,
+    Refused(usize, Refusal),
+}
+
+pub fn walk_chunks(t: &[u64], heights: &mut [u8], blinds: &mut [u8]) -> Walk
+    requires { ⌜ ((k : ℕ) → k < count (now t) 7 → Roomy (now t) (now heights) (now blinds) k) ⌝ }
+    ensures { λ r. ⌜ resultsOf r (sheetsOf (now (heights .exit)) (now (blinds .exit))) ≡ walk-all 0 (chunksOf (now (t .entry))) (sheetsOf (now (heights .entry)) (now (blinds .entry))) ⌝ }
+{
+    let n = bytecode::count(t, 7);
+    let mut k = 0;
+    while k < n {
+        let o = walk_chunk(t, heights, blinds, k);
+        let f = o.flow;
+        if let Flow::Refused(r) = f {
+            return Walk::Refused(k, r);
+        }
+        k += 1;
+    }
+    Walk::Accepted
+}
