@@ -52,14 +52,14 @@ placed-by t h b h′ b′ x e f p =
 
 module _ (t h b : List ℕ) (x : Ctx) (ip end floor u v : ℕ) (r : Ready t h b x ip end floor u v) (below : ip < end) where
   -- there is an instruction at ip
-  pub inside : ip < x .length
-  inside = elim (decLt ip (x .length)) [
+  pub inside : ip < x .count
+  inside = elim (decLt ip (x .count)) [
     | yes l ↦ l
-    | no g ↦ absurd (in-arm (chunkIn t x) (r .placed .nested) (r .arm) ip below (no-instr t (x .chunk) (x .base) (x .length) ip (r .placed .of .base) (r .placed .of .length) (omega arith)))
+    | no g ↦ absurd (in-arm (chunkIn t x) (r .placed .nested) (r .arm) ip below (no-instr t (x .chunk) (x .first) (x .count) ip (r .placed .of .first) (r .placed .of .count) (omega arith)))
   ]
 
   pub there : instr-at (chunkIn t x) ip ≡ some (instrIn t x ip)
-  there = instr-here t (x .chunk) (x .base) (x .length) ip (r .placed .of .base) (r .placed .of .length) inside
+  there = instr-here t (x .chunk) (x .first) (x .count) ip (r .placed .of .first) (r .placed .of .count) inside
 
   pub leads-at : {k : Control} → control (instrIn t x ip) ≡ k → control-at (chunkIn t x) ip ≡ k
   unfolding control-at control-of
@@ -453,8 +453,8 @@ module _ (t : List ℕ) (x : Ctx) (ip exit : ℕ) (s₀ : State) where
 
 -- ── After a loop ──────────────────────────────────────────────────────────────────────────
 
-module _ (t : List ℕ) (x : Ctx) (target ip end floor : ℕ) (s : State) (b : Breaks) (h bl h₁ : List ℕ) (f : x .base ≡ first-op t (x .chunk))
-    (there : control (instrIn t x ip) ≡ loopTo target) (m : h₁ ≡ set h (x .base + ip) (suc (s .height))) (l : Left) (sh : Sheets)
+module _ (t : List ℕ) (x : Ctx) (target ip end floor : ℕ) (s : State) (b : Breaks) (h bl h₁ : List ℕ) (f : x .first ≡ first-op t (x .chunk))
+    (there : control (instrIn t x ip) ≡ loopTo target) (m : h₁ ≡ set h (x .first + ip) (suc (s .height))) (l : Left) (sh : Sheets)
     (P : leftOf (x .locals) l sh ≡ loopOf (chunkIn t x) ip target (stateOf (x .locals) s) (sheetsOf h₁ bl)) where
   around-loop : {q : Leaving} → l .leaving ≡ q →
       (leavingOf (x .locals) l sh q >>= λ (z : AnyLeft). full (chunkIn t x) target end floor (z .state) (breaksOf (x .locals) b) (z .sheets))
@@ -509,9 +509,9 @@ module _ (t h b : List ℕ) (x : Ctx) (target ip end floor u v : ℕ) (r : Ready
         )
 
 -- an arm lies in its chunk
-pub arm-in : (t : List ℕ) (x : Ctx) (a end : ℕ) → x .length ≡ op-count t (x .chunk) → x .base ≡ first-op t (x .chunk) → Nested (chunkIn t x) → Arm (chunkIn t x) a end → end ≤ x .length
-arm-in t x a end n f N arm = elim (decLt (x .length) end) [
-  | yes l ↦ absurd (in-arm (chunkIn t x) N arm (x .length) l (no-instr t (x .chunk) (x .base) (x .length) (x .length) f n (omega arith)))
+pub arm-in : (t : List ℕ) (x : Ctx) (a end : ℕ) → x .count ≡ op-count t (x .chunk) → x .first ≡ first-op t (x .chunk) → Nested (chunkIn t x) → Arm (chunkIn t x) a end → end ≤ x .count
+arm-in t x a end n f N arm = elim (decLt (x .count) end) [
+  | yes l ↦ absurd (in-arm (chunkIn t x) N arm (x .count) l (no-instr t (x .chunk) (x .first) (x .count) (x .count) f n (omega arith)))
   | no g ↦ omega arith
 ]
 
@@ -529,12 +529,12 @@ if-passed t x target ip end floor s b h bl h₁ b₁ r E p m o sh q =
     (examined-ok t x ip floor s b (sheetsOf h bl) r E p) target)
 
 -- the body of a loop
-pub loop-arm-in : (t : List ℕ) (x : Ctx) (ip exit : ℕ) → x .base ≡ first-op t (x .chunk) → x .length ≡ op-count t (x .chunk) → ip < x .length →
+pub loop-arm-in : (t : List ℕ) (x : Ctx) (ip exit : ℕ) → x .first ≡ first-op t (x .chunk) → x .count ≡ op-count t (x .chunk) → ip < x .count →
     control (instrIn t x ip) ≡ loopTo exit → Arm (chunkIn t x) (ip + 1) (exit - 1)
 unfolding control-at control-of
 loop-arm-in t x ip exit f n below e =
     subst (λ (z : ℕ). Arm (chunkIn t x) z (exit - 1)) (let z : suc ip ≡ ip + 1 = omega arith in z)
-    (loop-arm ip exit (ap control-of (instr-here t (x .chunk) (x .base) (x .length) ip f n below) ∙ e))
+    (loop-arm ip exit (ap control-of (instr-here t (x .chunk) (x .first) (x .count) ip f n below) ∙ e))
 
 -- the last pass, from what its body and its end gave
 pub last-made : (t : List ℕ) (x : Ctx) (ip exit floor : ℕ) (head lost-head : State) →

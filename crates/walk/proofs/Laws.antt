@@ -200,12 +200,12 @@ unfolding mark-blind
 blind-kept blinds at b e = ap (λ (t : Bool). mark-blind t at blinds) (sym e)
 
 -- both sheets after an examination
-pub marked : (t : List ℕ) (x : Ctx) (ip : ℕ) (s : State) (h b h′ b′ : List ℕ) (blind : Bool) → x .base ≡ first-op t (x .chunk) →
+pub marked : (t : List ℕ) (x : Ctx) (ip : ℕ) (s : State) (h b h′ b′ : List ℕ) (blind : Bool) → x .first ≡ first-op t (x .chunk) →
     blind ≡ is-blind (reading (chunkIn t x) (instrIn t x ip)) (stackOf s) →
-    h′ ≡ set h (x .base + ip) (suc (s .height)) → b′ ≡ mark-blind blind (x .base + ip) b → sheetsOf h′ b′ ≡ markIn t x ip s (sheetsOf h b)
+    h′ ≡ set h (x .first + ip) (suc (s .height)) → b′ ≡ mark-blind blind (x .first + ip) b → sheetsOf h′ b′ ≡ markIn t x ip s (sheetsOf h b)
 unfolding mark
 marked t x ip s h b h′ b′ blind f e p q =
-    let base : chunkIn t x .base ≡ x .base = chunk-base t (x .chunk) ∙ sym f in
+    let base : chunkIn t x .base ≡ x .first = chunk-base t (x .chunk) ∙ sym f in
     let hs : h′ ≡ set h (chunkIn t x .base + ip) (suc (height (stateOf (x .locals) s))) =
     p ∙ ap (λ (n : ℕ). set h (n + ip) (suc (s .height))) (sym base) ∙ ap (λ (n : ℕ). set h (chunkIn t x .base + ip) (suc n)) (sym (height-is (x .locals) s)) in
     let bs : b′ ≡ mark-blind (is-blind (reading (chunkIn t x) (instrIn t x ip)) (stackOf s)) (chunkIn t x .base + ip) b =

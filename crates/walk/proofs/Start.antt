@@ -94,20 +94,20 @@ module _ (t h b : List ℕ) (k : ℕ) (R : Roomy t h b k) (x : Ctx) (O : Of t k 
   pub locals-few : x .locals ≤ 32
   locals-few = omega (arith, O .locals, locals-low t k)
 
-  pub chunk-ready : (s : State) → s .height ≡ 0 → Ready t h b x 0 (x .length) 0 (s .height) (s .height)
+  pub chunk-ready : (s : State) → s .height ≡ 0 → Ready t h b x 0 (x .count) 0 (s .height) (s .height)
   chunk-ready s e =
       record {
         placed =
             record {
               of = of-itself;
-              heights-long = omega (arith, O .base, O .length, R .heights-long);
-              blinds-long = omega (arith, O .base, O .length, R .blinds-long);
+              heights-long = omega (arith, O .first, O .count, R .heights-long);
+              blinds-long = omega (arith, O .first, O .count, R .blinds-long);
               nested = subst (λ (n : ℕ). Rattle.theorems.specs.Nested.Nested (chunkOf t n)) (sym (O .chunk)) (R .nested);
             };
         from = 0;
         arm =
             subst (λ (n : ℕ). Rattle.theorems.specs.Nested.Arm (chunkIn t x) 0 n)
-            (ap (λ (n : ℕ). length (chunkOf t n .code)) (O .chunk) ∙ code-length t k ∙ sym (O .length)) whole;
+            (ap (λ (n : ℕ). length (chunkOf t n .code)) (O .chunk) ∙ code-length t k ∙ sym (O .count)) whole;
         after = omega arith;
         before = omega arith;
         floor-low = omega arith;
@@ -117,7 +117,7 @@ module _ (t h b : List ℕ) (k : ℕ) (R : Roomy t h b k) (x : Ctx) (O : Of t k 
 
   pub chunk-walked : (s : State) (n : Breaks) (o : Outcome) (sh : Sheets) → stateOf (x .locals) s ≡ record { stack = []; locals = start-locals (x .locals) (params (chunkIn t x)) } →
       n .pending ≡ Nothing →
-      walkedOf (x .locals) o sh ≡ full (chunkIn t x) 0 (x .length) 0 (stateOf (x .locals) s) (breaksOf (x .locals) n) (sheetsOf h b) →
+      walkedOf (x .locals) o sh ≡ full (chunkIn t x) 0 (x .count) 0 (stateOf (x .locals) s) (breaksOf (x .locals) n) (sheetsOf h b) →
       walkedOf (localsAt t k) o sh ≡ walk-chunk (chunkOf t k) (sheetsOf h b)
   unfolding pendingOf start
   chunk-walked s n o sh e p w =
@@ -125,11 +125,11 @@ module _ (t h b : List ℕ) (k : ℕ) (R : Roomy t h b k) (x : Ctx) (O : Of t k 
       let same : chunkIn t x ≡ c = ap (chunkOf t) (O .chunk) in
       let l : x .locals ≡ c .locals = O .locals ∙ sym (chunk-locals t k) in
       ap (λ (m : ℕ). walkedOf m o sh) (sym (O .locals)) ∙ w
-      ∙ ap (λ (q : _). full (chunkIn t x) 0 (x .length) 0 (stateOf (x .locals) s) (pendingOf (x .locals) n q) (sheetsOf h b)) p
-      ∙ ap (λ (z : AnyState). full (chunkIn t x) 0 (x .length) 0 z no-break (sheetsOf h b)) e
-      ∙ ap (λ (d : Chunk). full d 0 (x .length) 0 (record { stack = []; locals = start-locals (x .locals) (params d) }) no-break (sheetsOf h b)) same
-      ∙ ap (λ (m : ℕ). full c 0 (x .length) 0 (record { stack = []; locals = start-locals m (params c) }) no-break (sheetsOf h b)) l
-      ∙ ap (λ (m : ℕ). full c 0 m 0 (record { stack = []; locals = start-locals (c .locals) (params c) }) no-break (sheetsOf h b)) (O .length ∙ sym (code-length t k))
+      ∙ ap (λ (q : _). full (chunkIn t x) 0 (x .count) 0 (stateOf (x .locals) s) (pendingOf (x .locals) n q) (sheetsOf h b)) p
+      ∙ ap (λ (z : AnyState). full (chunkIn t x) 0 (x .count) 0 z no-break (sheetsOf h b)) e
+      ∙ ap (λ (d : Chunk). full d 0 (x .count) 0 (record { stack = []; locals = start-locals (x .locals) (params d) }) no-break (sheetsOf h b)) same
+      ∙ ap (λ (m : ℕ). full c 0 (x .count) 0 (record { stack = []; locals = start-locals m (params c) }) no-break (sheetsOf h b)) l
+      ∙ ap (λ (m : ℕ). full c 0 m 0 (record { stack = []; locals = start-locals (c .locals) (params c) }) no-break (sheetsOf h b)) (O .count ∙ sym (code-length t k))
       ∙ sym (chunk-full c (sheetsOf h b))
 
 -- ── All chunks ────────────────────────────────────────────────────────────────────────────

@@ -55,19 +55,12 @@ refused-is locals r e = go (refusal (r .verdict)) e
     go none h = absurd (no-false (sym h))
     go (some q) h = refl
 
-pub passed-none : (r : Step) → is-none (refusal (r .verdict)) ≡ true → refusal (r .verdict) ≡ none
-passed-none r e = go (refusal (r .verdict)) e
-  where
-    go : (o : Option (List ℕ)) → is-none o ≡ true → o ≡ none
-    go none h = refl
-    go (some q) h = absurd (no-false h)
-
 -- the examination of what stands at ip
-pub examined-by : (t : List ℕ) (x : Ctx) (ip floor : ℕ) (s : State) (i : Instr) → Instr-is t (x .base + ip) i → (r : Step) → Applied t x i s floor ip r → Examined t x ip floor s r
+pub examined-by : (t : List ℕ) (x : Ctx) (ip floor : ℕ) (s : State) (i : Instr) → Instr-is t (x .first + ip) i → (r : Step) → Applied t x i ip floor s r → Examined t x ip floor s r
 examined-by t x ip floor s i I r A =
     record {
       result = A .result ∙ ap (λ (z : AnyInstr). examine (chunkIn t x) ip floor z (stateOf (x .locals) s)) (I .same);
-      blind = λ n. A .blind n ∙ ap (λ (z : AnyInstr). is-blind (reading (chunkIn t x) z) (stackOf s)) (I .same);
+      blind = A .blind ∙ ap (λ (z : AnyInstr). is-blind (reading (chunkIn t x) z) (stackOf s)) (I .same);
       low = A .low;
     }
 
@@ -170,17 +163,17 @@ module _ (t : List ℕ) (x : Ctx) (ip floor : ℕ) (s : State) (b : Breaks) (sh 
 
 -- Loop, Break and Return mark the height, and no blind entry.
 pub quiet-mark : (t : List ℕ) (x : Ctx) (ip : ℕ) (s : State) (h b h′ : List ℕ) {k : Control} → control (instrIn t x ip) ≡ k → is-quiet k ≡ true →
-    x .base ≡ first-op t (x .chunk) → h′ ≡ set h (x .base + ip) (suc (s .height)) → sheetsOf h′ b ≡ markIn t x ip s (sheetsOf h b)
+    x .first ≡ first-op t (x .chunk) → h′ ≡ set h (x .first + ip) (suc (s .height)) → sheetsOf h′ b ≡ markIn t x ip s (sheetsOf h b)
 unfolding mark mark-blind is-blind
 quiet-mark t x ip s h b h′ e q f m =
     let c : Chunk = chunkIn t x in
-    let base : c .base ≡ x .base = chunk-base t (x .chunk) ∙ sym f in
+    let base : c .base ≡ x .first = chunk-base t (x .chunk) ∙ sym f in
     let S : AnyState = stateOf (x .locals) s in
     ap (λ (l : List ℕ). sheetsOf l b)
     (m ∙ ap (λ (n : ℕ). set h (n + ip) (suc (s .height))) (sym base) ∙ ap (λ (n : ℕ). set h (c .base + ip) (suc n)) (sym (height-is (x .locals) s)))
     ∙ ap (λ (z : _). sheetsOf (set h (c .base + ip) (suc (height S))) (mark-blind (is-blind z (S .stack)) (c .base + ip) b)) (sym (quiet c (instrIn t x ip) e q .reads))
 
-module _ (t : List ℕ) (x : Ctx) (ip end floor : ℕ) (s : State) (b : Breaks) (h bl h′ : List ℕ) (o : Onward) (f : x .base ≡ first-op t (x .chunk)) (code a : ℕ)
+module _ (t : List ℕ) (x : Ctx) (ip end floor : ℕ) (s : State) (b : Breaks) (h bl h′ : List ℕ) (o : Onward) (f : x .first ≡ first-op t (x .chunk)) (code a : ℕ)
     (there : control (instrIn t x ip) ≡ leads code a) (Q : Quietly x code ip s b h h′ o) where
   quiet-ended : (k : Control) → is-quiet k ≡ true → control (instrIn t x ip) ≡ k → (B : AnyBreaks) → B ≡ breaksOf (x .locals) (o .out .breaks) →
       ok (record { fall = none; breaks = B; sheets = markIn t x ip s (sheetsOf h bl) }) ≡ restOf (chunkIn t x) (x .locals) end floor o (sheetsOf h′ bl)

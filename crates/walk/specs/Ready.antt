@@ -23,8 +23,7 @@ use Rattle.theorems.specs.Nested.{Arm, Nested}
 use Rattle.bytecode.specs.Meaning.{chunkOf, first-op, op-count, instrAt}
 use Rattle.walk.specs.declared.Walk.{Walk}
 use Rattle.walk.specs.declared.Walk.the-variants.{Accepted, Refused}
-use Rattle.apply.specs.Answers.{Of, refusal, resultOf}
-use mathlib.Core.Option.{none}
+use Rattle.apply.specs.Answers.{Of, resultOf}
 use Rattle.walk.specs.declared.Breaks.{Breaks}
 use Rattle.apply.specs.declared.Ctx.{Ctx}
 
@@ -34,8 +33,8 @@ sheetsOf h b = record { heights = h; blinds = b }
 -- The numbers of a nested chunk, and room for it in both sheets.
 pub record Placed (t heights blinds : List ℕ) (x : Ctx) : Type 0 where
   pub of : Of t (x .chunk) x
-  pub heights-long : x .base + x .length ≤ length heights
-  pub blinds-long : x .base + x .length ≤ length blinds
+  pub heights-long : x .first + x .count ≤ length heights
+  pub blinds-long : x .first + x .count ≤ length blinds
   pub nested : Nested (chunkOf t (x .chunk))
 
 -- A stretch of it: from ip on to the end of an arm, over a loop's floor.
@@ -54,12 +53,12 @@ abbrev pub chunkIn : List ℕ → Ctx → Chunk
 chunkIn t x = chunkOf t (x .chunk)
 
 abbrev pub instrIn : List ℕ → Ctx → ℕ → AnyInstr
-instrIn t x ip = instrAt t (x .base + ip)
+instrIn t x ip = instrAt t (x .first + ip)
 
--- What the examination of the instruction at ip gives; its mark counts only where it passes.
+-- What the examination of the instruction at ip gives.
 pub record Examined (t : List ℕ) (x : Ctx) (ip floor : ℕ) (s : State) (r : Step) : Type 0 where
   pub result : resultOf (x .locals) r ≡ examine (chunkIn t x) ip floor (instrIn t x ip) (stateOf (x .locals) s)
-  pub blind : refusal (r .verdict) ≡ none → r .blind ≡ is-blind (reading (chunkIn t x) (instrIn t x ip)) (stackOf s)
+  pub blind : r .blind ≡ is-blind (reading (chunkIn t x) (instrIn t x ip)) (stackOf s)
   pub low : r .state .height ≤ 64
 
 -- the sheets with the instruction at ip marked
@@ -89,7 +88,7 @@ Steps ip r = (r .next ≡ ip + 1) × Low (r .out)
 
 -- A Break (code 71) or a Return, examined without a test: the height is marked, and the path ends; a Break's state joins the breaks.
 pub record Quietly (x : Ctx) (code ip : ℕ) (s : State) (b : Breaks) (before after : List ℕ) (r : Onward) : Type 0 where
-  pub marks : after ≡ set before (x .base + ip) (suc (s .height))
+  pub marks : after ≡ set before (x .first + ip) (suc (s .height))
   pub ended : r .out .flow ≡ Ended
   pub breaks : code ≡ 71 → breaksOf (x .locals) (r .out .breaks) ≡ add-break (breaksOf (x .locals) b) (stateOf (x .locals) s)
   pub returns : code ≢ 71 → breaksOf (x .locals) (r .out .breaks) ≡ breaksOf (x .locals) b

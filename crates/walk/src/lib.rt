@@ -18,7 +18,6 @@ ghost use Rattle.walk.specs.declared.Flow.the-variants.{Refused};
 ghost use Rattle.walk.specs.declared.Refusal.the-variants.{Instruction, Misplaced};
 ghost use Rattle.bytecode.specs.Meaning.{first-op, op-count, localsAt, chunkOf, chunksOf, count};
 ghost use Rattle.theorems.specs.Fuel.{full};
-ghost use Rattle.apply.specs.Answers.{is-none, refusal};
 ghost use Rattle.walk.specs.Ready.{sheetsOf, Placed, Ready, chunkIn, instrIn, Examined, markIn, visitIn, straight, leads, Steps, Quietly, Goes, armsIn, lastIn, Roomy, resultsOf};
 use apply::Ctx;
 use apply::Step;
@@ -251,16 +250,16 @@ fn examine_at(
     s: State,
 ) -> Step
     requires { ⌜ Placed (now t) (now heights) (now blinds) x ⌝ }
-    requires { ⌜ (ip < x .length) × (floor ≤ 64) × (s .height ≤ 64) ⌝ }
-    ensures { λ r. ⌜ Examined (now (t .entry)) x ip floor s r × (is-none (refusal (r .verdict)) ≡ true → sheetsOf (now (heights .exit)) (now (blinds .exit)) ≡ markIn (now (t .entry)) x ip s (sheetsOf (now (heights .entry)) (now (blinds .entry)))) ⌝ }
+    requires { ⌜ (ip < x .count) × (floor ≤ 64) × (s .height ≤ 64) ⌝ }
+    ensures { λ r. ⌜ Examined (now (t .entry)) x ip floor s r × (sheetsOf (now (heights .exit)) (now (blinds .exit)) ≡ markIn (now (t .entry)) x ip s (sheetsOf (now (heights .entry)) (now (blinds .entry)))) ⌝ }
 {
-    let base = x.base;
-    let i = bytecode::instr_at(t, base + ip);
-    let r = apply::examine(t, x, i, s, floor, ip);
+    let first = x.first;
+    let i = bytecode::instr_at(t, first + ip);
+    let r = apply::examine(t, x, i, ip, floor, s);
     let h = s.height;
     let blind = r.blind;
-    mark_height(heights, base + ip, h);
-    mark_blind(blinds, base + ip, blind);
+    mark_height(heights, first + ip, h);
+    mark_blind(blinds, first + ip, blind);
     r
 }
 
@@ -279,11 +278,11 @@ fn is_straight(code: u8) -> bool
 
 // The form of the If at ip.
 fn layout_of(t: &[u64], x: Ctx, ip: usize, target: usize) -> Layout
-    requires { ⌜ (x .base ≡ first-op (now t) (x .chunk)) × (x .length ≡ op-count (now t) (x .chunk)) × (x .base + x .length ≤ 4096) × (ip < x .length) ⌝ }
+    requires { ⌜ (x .first ≡ first-op (now t) (x .chunk)) × (x .count ≡ op-count (now t) (x .chunk)) × (x .first + x .count ≤ 4096) × (ip < x .count) ⌝ }
     ensures { λ r. ⌜ elseOf r ≡ else-at (chunkIn (now (t .entry)) x) ip target ⌝ }
 {
-    let n = x.length;
-    let base = x.base;
+    let n = x.count;
+    let first = x.first;
     if target <= ip + 1 {
         return Layout::OneArm;
     }
@@ -291,7 +290,7 @@ fn layout_of(t: &[u64], x: Ctx, ip: usize, target: usize) -> Layout
     if n <= at {
         return Layout::OneArm;
     }
-    let i = bytecode::instr_at(t, base + at);
+    let i = bytecode::instr_at(t, first + at);
     let code = i.code;
     let a = i.a;
     if code == 67 {
@@ -302,12 +301,12 @@ fn layout_of(t: &[u64], x: Ctx, ip: usize, target: usize) -> Layout
 
 // The local that the instruction at p writes becomes unknown.
 fn invalidate_local(t: &[u64], x: Ctx, p: usize, s: State) -> State
-    requires { ⌜ (x .base ≡ first-op (now t) (x .chunk)) × (x .length ≡ op-count (now t) (x .chunk)) × (x .base + x .length ≤ 4096) × (p < x .length) × (x .locals ≤ 32) × (s .height ≤ 64) ⌝ }
+    requires { ⌜ (x .first ≡ first-op (now t) (x .chunk)) × (x .count ≡ op-count (now t) (x .chunk)) × (x .first + x .count ≤ 4096) × (p < x .count) × (x .locals ≤ 32) × (s .height ≤ 64) ⌝ }
     ensures { λ r. ⌜ (r .height ≡ s .height) × (stateOf (x .locals) r ≡ with-locals (stateOf (x .locals) s) (forget (chunkIn (now (t .entry)) x) p 1 (localsOf (x .locals) s))) ⌝ }
 {
-    let base = x.base;
+    let first = x.first;
     let locals = x.locals;
-    let i = bytecode::instr_at(t, base + p);
+    let i = bytecode::instr_at(t, first + p);
     let code = i.code;
     let a = i.a;
     if code == 5 {
@@ -318,7 +317,7 @@ fn invalidate_local(t: &[u64], x: Ctx, p: usize, s: State) -> State
 
 // Each local that an instruction from start to before end writes becomes unknown.
 fn invalidate_written_locals(t: &[u64], x: Ctx, start: usize, end: usize, head: State) -> State
-    requires { ⌜ (x .base ≡ first-op (now t) (x .chunk)) × (x .length ≡ op-count (now t) (x .chunk)) × (x .base + x .length ≤ 4096) × (end ≤ x .length) × (x .locals ≤ 32) × (head .height ≤ 64) ⌝ }
+    requires { ⌜ (x .first ≡ first-op (now t) (x .chunk)) × (x .count ≡ op-count (now t) (x .chunk)) × (x .first + x .count ≤ 4096) × (end ≤ x .count) × (x .locals ≤ 32) × (head .height ≤ 64) ⌝ }
     ensures { λ r. ⌜ (r .height ≡ head .height) × (stateOf (x .locals) r ≡ with-locals (stateOf (x .locals) head) (forget (chunkIn (now (t .entry)) x) start (end - start) (localsOf (x .locals) head))) ⌝ }
 {
     let mut s = head;
@@ -357,7 +356,7 @@ fn trap_at(
     b: Breaks,
 ) -> Onward
     requires { ⌜ Placed (now t) (now heights) (now blinds) x ⌝ }
-    requires { ⌜ (ip < x .length) × (floor ≤ 64) × (s .height ≤ 64) × (b .state .height ≤ 64) ⌝ }
+    requires { ⌜ (ip < x .count) × (floor ≤ 64) × (s .height ≤ 64) × (b .state .height ≤ 64) ⌝ }
     ensures { λ r. ⌜ ((end : ℕ) → visitIn (now (t .entry)) x ip end floor s b (sheetsOf (now (heights .entry)) (now (blinds .entry))) stops ≡ restOf (chunkIn (now (t .entry)) x) (x .locals) end floor r (sheetsOf (now (heights .exit)) (now (blinds .exit)))) × Steps ip r ⌝ }
 {
     let e = examine_at(t, heights, blinds, x, ip, floor, s);
@@ -388,7 +387,7 @@ fn break_if_at(
     b: Breaks,
 ) -> Onward
     requires { ⌜ Placed (now t) (now heights) (now blinds) x ⌝ }
-    requires { ⌜ (ip < x .length) × (floor ≤ 64) × (s .height ≤ 64) × (b .state .height ≤ 64) ⌝ }
+    requires { ⌜ (ip < x .count) × (floor ≤ 64) × (s .height ≤ 64) × (b .state .height ≤ 64) ⌝ }
     ensures { λ r. ⌜ ((end : ℕ) → visitIn (now (t .entry)) x ip end floor s b (sheetsOf (now (heights .entry)) (now (blinds .entry))) (breakIfTo target) ≡ restOf (chunkIn (now (t .entry)) x) (x .locals) end floor r (sheetsOf (now (heights .exit)) (now (blinds .exit)))) × Steps ip r ⌝ }
 {
     let locals = x.locals;
@@ -411,13 +410,13 @@ fn break_if_at(
 
 // A Break, or a Return: examined without a test, and the path ends there.
 fn quiet_at(heights: &mut [u8], x: Ctx, code: u8, ip: usize, s: State, b: Breaks) -> Onward
-    requires { ⌜ (x .base + x .length ≤ length (now heights)) × (x .base + x .length ≤ 4096) × (ip < x .length) × (x .locals ≤ 32) × (s .height ≤ 64) × (b .state .height ≤ 64) ⌝ }
+    requires { ⌜ (x .first + x .count ≤ length (now heights)) × (x .first + x .count ≤ 4096) × (ip < x .count) × (x .locals ≤ 32) × (s .height ≤ 64) × (b .state .height ≤ 64) ⌝ }
     ensures { λ r. ⌜ Quietly x code ip s b (now (heights .entry)) (now (heights .exit)) r × Steps ip r ⌝ }
 {
-    let base = x.base;
+    let first = x.first;
     let locals = x.locals;
     let h = s.height;
-    mark_height(heights, base + ip, h);
+    mark_height(heights, first + ip, h);
     if code == 71 {
         let k = add_state(b, s, locals);
         return Onward {
@@ -468,7 +467,7 @@ fn leaf_at(
     b: Breaks,
 ) -> Onward
     requires { ⌜ Placed (now t) (now heights) (now blinds) x ⌝ }
-    requires { ⌜ (ip < x .length) × (floor ≤ 64) × (s .height ≤ 64) × (b .state .height ≤ 64) × (code < 75) × (straight code ≡ false) × (code ≢ 65) × (code ≢ 69) ⌝ }
+    requires { ⌜ (ip < x .count) × (floor ≤ 64) × (s .height ≤ 64) × (b .state .height ≤ 64) × (code < 75) × (straight code ≡ false) × (code ≢ 65) × (code ≢ 69) ⌝ }
     requires { ⌜ control (instrIn (now t) x ip) ≡ leads code target ⌝ }
     ensures { λ r. ⌜ ((end : ℕ) → visitIn (now (t .entry)) x ip end floor s b (sheetsOf (now (heights .entry)) (now (blinds .entry))) (leads code target) ≡ restOf (chunkIn (now (t .entry)) x) (x .locals) end floor r (sheetsOf (now (heights .exit)) (now (blinds .exit)))) × Steps ip r ⌝ }
 {
@@ -496,12 +495,12 @@ pub fn interp_region(
     requires { ⌜ Ready (now t) (now heights) (now blinds) x start end floor (s0 .height) (b0 .state .height) ⌝ }
     ensures { λ r. ⌜ (walkedOf (x .locals) r (sheetsOf (now (heights .exit)) (now (blinds .exit))) ≡ full (chunkIn (now (t .entry)) x) start end floor (stateOf (x .locals) s0) (breaksOf (x .locals) b0) (sheetsOf (now (heights .entry)) (now (blinds .entry)))) × Low r ⌝ }
 {
-    let base = x.base;
+    let first = x.first;
     let mut ip = start;
     let mut s = s0;
     let mut b = b0;
     while ip < end {
-        let i = bytecode::instr_at(t, base + ip);
+        let i = bytecode::instr_at(t, first + ip);
         let code = i.code;
         let a = i.a;
         if is_straight(code) {
@@ -689,9 +688,9 @@ fn loop_at(
     requires { ⌜ (ip < end) × (control (instrIn (now t) x ip) ≡ loopTo target) ⌝ }
     ensures { λ r. ⌜ (restOf (chunkIn (now (t .entry)) x) (x .locals) end floor r (sheetsOf (now (heights .exit)) (now (blinds .exit))) ≡ visitIn (now (t .entry)) x ip end floor s b (sheetsOf (now (heights .entry)) (now (blinds .entry))) (loopTo target)) × Goes ip end r ⌝ }
 {
-    let base = x.base;
+    let first = x.first;
     let h = s.height;
-    mark_height(heights, base + ip, h);
+    mark_height(heights, first + ip, h);
     let l = passes_at(t, heights, blinds, x, ip, target, s);
     let f = l.leaving;
     let u = l.state;
@@ -726,7 +725,7 @@ fn passes_at(
     s0: State,
 ) -> Left
     requires { ⌜ Placed (now t) (now heights) (now blinds) x ⌝ }
-    requires { ⌜ (ip + 1 < exit) × (exit ≤ x .length) × (s0 .height ≤ 64) × (control (instrIn (now t) x ip) ≡ loopTo exit) ⌝ }
+    requires { ⌜ (ip + 1 < exit) × (exit ≤ x .count) × (s0 .height ≤ 64) × (control (instrIn (now t) x ip) ≡ loopTo exit) ⌝ }
     ensures { λ r. ⌜ (leftOf (x .locals) r (sheetsOf (now (heights .exit)) (now (blinds .exit))) ≡ loopOf (chunkIn (now (t .entry)) x) ip exit (stateOf (x .locals) s0) (sheetsOf (now (heights .entry)) (now (blinds .entry)))) × (r .state .height ≤ 64) ⌝ }
 {
     let locals = x.locals;
@@ -783,7 +782,7 @@ fn last_pass(
     head: State,
 ) -> Left
     requires { ⌜ Placed (now t) (now heights) (now blinds) x ⌝ }
-    requires { ⌜ (ip + 1 < exit) × (exit ≤ x .length) × (floor ≤ 64) × (head .height ≤ 64) × (control (instrIn (now t) x ip) ≡ loopTo exit) ⌝ }
+    requires { ⌜ (ip + 1 < exit) × (exit ≤ x .count) × (floor ≤ 64) × (head .height ≤ 64) × (control (instrIn (now t) x ip) ≡ loopTo exit) ⌝ }
     ensures { λ r. ⌜ (leftOf (x .locals) r (sheetsOf (now (heights .exit)) (now (blinds .exit))) ≡ lastIn (now (t .entry)) x ip exit floor head (sheetsOf (now (heights .entry)) (now (blinds .entry)))) × (r .state .height ≤ 64) ⌝ }
 {
     let locals = x.locals;
@@ -830,9 +829,12 @@ pub fn walk_chunk(t: &[u64], heights: &mut [u8], blinds: &mut [u8], k: usize) ->
     ensures { λ r. ⌜ walkedOf (localsAt (now (t .entry)) k) r (sheetsOf (now (heights .exit)) (now (blinds .exit))) ≡ walk-chunk (chunkOf (now (t .entry)) k) (sheetsOf (now (heights .entry)) (now (blinds .entry))) ⌝ }
 {
     let x = apply::context(t, k);
-    let end = x.length;
+    let end = x.count;
     let s = start_state(t, x);
-    let b = Breaks { pending: Pending::Nothing, state: s };
+    let b = Breaks {
+        pending: Pending::Nothing,
+        state: s,
+    };
     interp_region(t, heights, blinds, x, 0, end, 0, s, b)
 }
 

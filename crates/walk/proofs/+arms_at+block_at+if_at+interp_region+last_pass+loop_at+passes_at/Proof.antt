@@ -137,7 +137,7 @@ abbrev passes-at-below : ℕ → In 3 passes-at-kinds.ps
 passes-at-below t =
     and 3 passes-at-kinds.ps (falls 3 passes-at-kinds.ps _<_ μ-passes-at t) passes-at.Pre
 
--- src/lib.rt:556:9
+-- src/lib.rt:624:9
 arms-at-layout-of-requires : (t : ℕ) → arms-at-lts.Need-layout-of-requires (
   layout-of-reads.Asked,
   layout-of-reads.Learnt,
@@ -146,9 +146,9 @@ arms-at-layout-of-requires : (t : ℕ) → arms-at-lts.Need-layout-of-requires (
   join-ends-reads.Asked,
   join-ends-reads.Learnt,
 ) (arms-at-at t) arms-at.Post
-arms-at-layout-of-requires t c κs = (c .before .before .before .pre .1 .0 .placed .of .base, c .before .before .before .pre .1 .0 .placed .of .length, c .before .before .before .pre .1 .0 .placed .of .within, Cycle.inside (c .before .before .before .args .t .now) (c .before .before .before .args .heights .now) (c .before .before .before .args .blinds .now) (c .before .before .before .args .x) (c .before .before .before .args .ip) (c .before .before .before .args .end) (c .before .before .before .args .floor) _ _ (c .before .before .before .pre .1 .0) (c .before .before .before .pre .1 .1 .0))
+arms-at-layout-of-requires t c κs = (c .before .before .before .pre .1 .0 .placed .of .first, c .before .before .before .pre .1 .0 .placed .of .count, c .before .before .before .pre .1 .0 .placed .of .within, Cycle.inside (c .before .before .before .args .t .now) (c .before .before .before .args .heights .now) (c .before .before .before .args .blinds .now) (c .before .before .before .args .x) (c .before .before .before .args .ip) (c .before .before .before .args .end) (c .before .before .before .args .floor) _ _ (c .before .before .before .pre .1 .0) (c .before .before .before .pre .1 .1 .0))
 
--- src/lib.rt:559:38
+-- src/lib.rt:627:38
 arms-at-enum-told : (t : ℕ) → arms-at-lts.Need-enum-told (
   layout-of-reads.Asked,
   layout-of-reads.Learnt,
@@ -159,7 +159,7 @@ arms-at-enum-told : (t : ℕ) → arms-at-lts.Need-enum-told (
 ) (arms-at-at t) arms-at.Post
 arms-at-enum-told t c = search needs
 
--- src/lib.rt:559:58
+-- src/lib.rt:627:58
 arms-at-add-interp-region : (t : ℕ) → arms-at-lts.Need-add-interp-region (
   layout-of-reads.Asked,
   layout-of-reads.Learnt,
@@ -170,7 +170,7 @@ arms-at-add-interp-region : (t : ℕ) → arms-at-lts.Need-add-interp-region (
 ) (arms-at-at t) arms-at.Post
 arms-at-add-interp-region t c = search needs
 
--- src/lib.rt:559:17
+-- src/lib.rt:627:17
 arms-at-interp-region-requires : (t : ℕ) → arms-at-lts.Need-interp-region-requires (
   layout-of-reads.Asked,
   layout-of-reads.Learnt,
@@ -182,7 +182,7 @@ arms-at-interp-region-requires : (t : ℕ) → arms-at-lts.Need-interp-region-re
 unfolding Outcomes.elseOf
 arms-at-interp-region-requires t c κs = let q = Cycle.one-arm-in (c .before .before .before .before .before .before .before .before .args .t .now) (c .before .before .before .before .before .before .before .before .args .heights .now) (c .before .before .before .before .before .before .before .before .args .blinds .now) (c .before .before .before .before .before .before .before .before .args .x) (c .before .before .before .before .before .before .before .before .args .target) (c .before .before .before .before .before .before .before .before .args .ip) (c .before .before .before .before .before .before .before .before .args .end) (c .before .before .before .before .before .before .before .before .args .floor) _ _ (c .before .before .before .before .before .before .before .before .pre .1 .0) (c .before .before .before .before .before .before .before .before .pre .1 .1 .0) (c .before .before .before .before .before .before .before .before .pre .1 .1 .1) (ap Outcomes.elseOf (sym (c .before .before .enum-told .given .1)) ∙ c .before .before .before .before .layout-of .ensures) in (omega (arith, q .0, q .1, c .before .before .before .before .before .before .before .before .pre .0), record { placed = c .before .before .before .before .before .before .before .before .pre .1 .0 .placed; from = c .before .before .before .before .before .before .before .before .args .ip + 1; arm = q .2; after = omega arith; before = omega (arith, q .0); floor-low = c .before .before .before .before .before .before .before .before .pre .1 .0 .floor-low; height-low = c .before .before .before .before .before .before .before .before .pre .1 .0 .height-low; breaks-low = c .before .before .before .before .before .before .before .before .pre .1 .0 .breaks-low })
 
--- src/lib.rt:562:39
+-- src/lib.rt:631:27
 arms-at-enum-told-2 : (t : ℕ) → arms-at-lts.Need-enum-told-2 (
   layout-of-reads.Asked,
   layout-of-reads.Learnt,
@@ -193,7 +193,7 @@ arms-at-enum-told-2 : (t : ℕ) → arms-at-lts.Need-enum-told-2 (
 ) (arms-at-at t) arms-at.Post
 arms-at-enum-told-2 t c = search needs
 
--- src/lib.rt:562:39
+-- src/lib.rt:631:27
 arms-at-add-t31 : (t : ℕ) → arms-at-lts.Need-add-t31 (
   layout-of-reads.Asked,
   layout-of-reads.Learnt,
@@ -205,7 +205,7 @@ arms-at-add-t31 : (t : ℕ) → arms-at-lts.Need-add-t31 (
 unfolding Outcomes.elseOf
 arms-at-add-t31 t c = let q = Cycle.one-arm-in (c .before .before .before .before .before .before .before .before .before .before .before .before .before .before .before .args .t .now) (c .before .before .before .before .before .before .before .before .before .before .before .before .before .before .before .args .heights .now) (c .before .before .before .before .before .before .before .before .before .before .before .before .before .before .before .args .blinds .now) (c .before .before .before .before .before .before .before .before .before .before .before .before .before .before .before .args .x) (c .before .before .before .before .before .before .before .before .before .before .before .before .before .before .before .args .target) (c .before .before .before .before .before .before .before .before .before .before .before .before .before .before .before .args .ip) (c .before .before .before .before .before .before .before .before .before .before .before .before .before .before .before .args .end) (c .before .before .before .before .before .before .before .before .before .before .before .before .before .before .before .args .floor) _ _ (c .before .before .before .before .before .before .before .before .before .before .before .before .before .before .before .pre .1 .0) (c .before .before .before .before .before .before .before .before .before .before .before .before .before .before .before .pre .1 .1 .0) (c .before .before .before .before .before .before .before .before .before .before .before .before .before .before .before .pre .1 .1 .1) (ap Outcomes.elseOf (sym (c .before .before .before .before .before .before .before .before .before .enum-told .given .1)) ∙ c .before .before .before .before .before .before .before .before .before .before .before .layout-of .ensures) in omega (arith, q .1, c .before .before .before .before .before .before .before .before .before .before .before .before .before .before .before .fits)
 
--- src/lib.rt:562:17
+-- src/lib.rt:630:17
 arms-at-same-length : (t : ℕ) → arms-at-lts.Need-same-length (
   layout-of-reads.Asked,
   layout-of-reads.Learnt,
@@ -216,7 +216,7 @@ arms-at-same-length : (t : ℕ) → arms-at-lts.Need-same-length (
 ) (arms-at-at t) arms-at.Post
 arms-at-same-length t c = search needs
 
--- src/lib.rt:562:17
+-- src/lib.rt:630:17
 arms-at-same-length-2 : (t : ℕ) → arms-at-lts.Need-same-length-2 (
   layout-of-reads.Asked,
   layout-of-reads.Learnt,
@@ -227,7 +227,7 @@ arms-at-same-length-2 : (t : ℕ) → arms-at-lts.Need-same-length-2 (
 ) (arms-at-at t) arms-at.Post
 arms-at-same-length-2 t c = search needs
 
--- src/lib.rt:562:17
+-- src/lib.rt:630:17
 arms-at-returns : (t : ℕ) → arms-at-lts.Need-returns (
   layout-of-reads.Asked,
   layout-of-reads.Learnt,
@@ -239,7 +239,7 @@ arms-at-returns : (t : ℕ) → arms-at-lts.Need-returns (
 unfolding Outcomes.elseOf
 arms-at-returns t c = (Cycle.one-refused (c .before .before .before .before .before .before .before .before .before .before .before .before .before .before .before .args .t .now) (c .before .before .before .before .before .before .before .before .before .before .before .before .before .before .before .args .x) (c .before .before .before .before .before .before .before .before .before .before .before .before .before .before .before .args .target) (c .before .before .before .before .before .before .before .before .before .before .before .before .before .before .before .args .ip) (c .before .before .before .before .before .before .before .before .before .before .before .before .before .before .before .args .end) (c .before .before .before .before .before .before .before .before .before .before .before .before .before .before .before .args .floor) (c .before .before .before .before .before .before .before .before .before .before .before .before .before .before .before .args .s) (c .before .before .before .before .before .before .before .before .before .before .before .before .before .before .before .args .b) _ _ (c .before .before .before .before .before .before .interp-region .result) (ap Outcomes.elseOf (sym (c .before .before .before .before .before .before .before .before .before .enum-told .given .1)) ∙ c .before .before .before .before .before .before .before .before .before .before .before .layout-of .ensures) (c .before .before .before .before .before .before .interp-region .ensures .0) ((c .before .before .before .before .before .before .before .before .before .before .before .before .before .before .before .args .target) + 1) (c .enum-told2 .given .1), (let q = Cycle.one-arm-in (c .before .before .before .before .before .before .before .before .before .before .before .before .before .before .before .args .t .now) (c .before .before .before .before .before .before .before .before .before .before .before .before .before .before .before .args .heights .now) (c .before .before .before .before .before .before .before .before .before .before .before .before .before .before .before .args .blinds .now) (c .before .before .before .before .before .before .before .before .before .before .before .before .before .before .before .args .x) (c .before .before .before .before .before .before .before .before .before .before .before .before .before .before .before .args .target) (c .before .before .before .before .before .before .before .before .before .before .before .before .before .before .before .args .ip) (c .before .before .before .before .before .before .before .before .before .before .before .before .before .before .before .args .end) (c .before .before .before .before .before .before .before .before .before .before .before .before .before .before .before .args .floor) _ _ (c .before .before .before .before .before .before .before .before .before .before .before .before .before .before .before .pre .1 .0) (c .before .before .before .before .before .before .before .before .before .before .before .before .before .before .before .pre .1 .1 .0) (c .before .before .before .before .before .before .before .before .before .before .before .before .before .before .before .pre .1 .1 .1) (ap Outcomes.elseOf (sym (c .before .before .before .before .before .before .before .before .before .enum-told .given .1)) ∙ c .before .before .before .before .before .before .before .before .before .before .before .layout-of .ensures) in (omega (arith, q .0), omega (arith, q .1), c .before .before .before .before .before .before .interp-region .ensures .1)))
 
--- src/lib.rt:566:17
+-- src/lib.rt:641:17
 arms-at-join-ends-requires : (t : ℕ) → arms-at-lts.Need-join-ends-requires (
   layout-of-reads.Asked,
   layout-of-reads.Learnt,
@@ -250,7 +250,7 @@ arms-at-join-ends-requires : (t : ℕ) → arms-at-lts.Need-join-ends-requires (
 ) (arms-at-at t) arms-at.Post
 arms-at-join-ends-requires t c κs = (c .before .before .before .before .before .before .interp-region .ensures .1 .0, c .before .before .before .before .before .before .before .before .before .before .before .before .before .before .before .pre .1 .0 .height-low, c .before .before .before .before .before .before .interp-region .ensures .1 .1, omega (arith, c .before .before .before .before .before .before .before .before .before .before .before .before .before .before .before .pre .1 .0 .placed .of .locals, locals-low (c .before .before .before .before .before .before .before .before .before .before .before .before .before .before .before .args .t .now) (c .before .before .before .before .before .before .before .before .before .before .before .before .before .before .before .args .x .chunk)), (Laws.open-by (c .before .before .before .before .before .before .interp-region .result .flow) (c .before .match2 .keys2)), tt)
 
--- src/lib.rt:567:28
+-- src/lib.rt:643:23
 arms-at-add-t30 : (t : ℕ) → arms-at-lts.Need-add-t30 (
   layout-of-reads.Asked,
   layout-of-reads.Learnt,
@@ -262,7 +262,7 @@ arms-at-add-t30 : (t : ℕ) → arms-at-lts.Need-add-t30 (
 unfolding Outcomes.elseOf
 arms-at-add-t30 t c = let q = Cycle.one-arm-in (c .before .before .before .before .before .before .before .before .before .before .before .before .before .before .before .before .args .t .now) (c .before .before .before .before .before .before .before .before .before .before .before .before .before .before .before .before .args .heights .now) (c .before .before .before .before .before .before .before .before .before .before .before .before .before .before .before .before .args .blinds .now) (c .before .before .before .before .before .before .before .before .before .before .before .before .before .before .before .before .args .x) (c .before .before .before .before .before .before .before .before .before .before .before .before .before .before .before .before .args .target) (c .before .before .before .before .before .before .before .before .before .before .before .before .before .before .before .before .args .ip) (c .before .before .before .before .before .before .before .before .before .before .before .before .before .before .before .before .args .end) (c .before .before .before .before .before .before .before .before .before .before .before .before .before .before .before .before .args .floor) _ _ (c .before .before .before .before .before .before .before .before .before .before .before .before .before .before .before .before .pre .1 .0) (c .before .before .before .before .before .before .before .before .before .before .before .before .before .before .before .before .pre .1 .1 .0) (c .before .before .before .before .before .before .before .before .before .before .before .before .before .before .before .before .pre .1 .1 .1) (ap Outcomes.elseOf (sym (c .before .before .before .before .before .before .before .before .before .before .enum-told .given .1)) ∙ c .before .before .before .before .before .before .before .before .before .before .before .before .layout-of .ensures) in omega (arith, q .1, c .before .before .before .before .before .before .before .before .before .before .before .before .before .before .before .before .fits)
 
--- src/lib.rt:569:25
+-- src/lib.rt:647:25
 arms-at-enum-known-l : (t : ℕ) → arms-at-lts.Need-enum-known-l (
   layout-of-reads.Asked,
   layout-of-reads.Learnt,
@@ -273,7 +273,7 @@ arms-at-enum-known-l : (t : ℕ) → arms-at-lts.Need-enum-known-l (
 ) (arms-at-at t) arms-at.Post
 arms-at-enum-known-l t c = search needs
 
--- src/lib.rt:570:58
+-- src/lib.rt:648:58
 arms-at-add-interp-region-2 : (t : ℕ) → arms-at-lts.Need-add-interp-region-2 (
   layout-of-reads.Asked,
   layout-of-reads.Learnt,
@@ -284,7 +284,7 @@ arms-at-add-interp-region-2 : (t : ℕ) → arms-at-lts.Need-add-interp-region-2
 ) (arms-at-at t) arms-at.Post
 arms-at-add-interp-region-2 t c = search needs
 
--- src/lib.rt:570:66
+-- src/lib.rt:648:66
 arms-at-sub-interp-region : (t : ℕ) → arms-at-lts.Need-sub-interp-region (
   layout-of-reads.Asked,
   layout-of-reads.Learnt,
@@ -296,7 +296,7 @@ arms-at-sub-interp-region : (t : ℕ) → arms-at-lts.Need-sub-interp-region (
 unfolding Outcomes.elseOf
 arms-at-sub-interp-region t c = let q = Cycle.two-arms-in (c .before .before .before .before .before .before .before .before .before .args .t .now) (c .before .before .before .before .before .before .before .before .before .args .heights .now) (c .before .before .before .before .before .before .before .before .before .args .blinds .now) (c .before .before .before .before .before .before .before .before .before .args .x) (c .before .before .before .before .before .before .before .before .before .args .target) (c .before .before .before .before .before .before .before .before .before .args .ip) (c .before .before .before .before .before .before .before .before .before .args .end) (c .before .before .before .before .before .before .before .before .before .args .floor) _ _ (c .before .before .before .before .before .before .before .before .before .pre .1 .0) (c .before .before .before .before .before .before .before .before .before .pre .1 .1 .0) (c .before .before .before .before .before .before .before .before .before .pre .1 .1 .1) (c .before .before .before .l .given .0 .0) (ap Outcomes.elseOf (sym (c .before .before .before .l .given .1)) ∙ c .before .before .before .before .before .layout-of .ensures) in omega (arith, q .0)
 
--- src/lib.rt:570:17
+-- src/lib.rt:648:17
 arms-at-interp-region-requires-2 : (t : ℕ) → arms-at-lts.Need-interp-region-requires-2 (
   layout-of-reads.Asked,
   layout-of-reads.Learnt,
@@ -308,7 +308,7 @@ arms-at-interp-region-requires-2 : (t : ℕ) → arms-at-lts.Need-interp-region-
 unfolding Outcomes.elseOf
 arms-at-interp-region-requires-2 t c κs = let q = Cycle.two-arms-in (c .before .before .before .before .before .before .before .before .before .args .t .now) (c .before .before .before .before .before .before .before .before .before .args .heights .now) (c .before .before .before .before .before .before .before .before .before .args .blinds .now) (c .before .before .before .before .before .before .before .before .before .args .x) (c .before .before .before .before .before .before .before .before .before .args .target) (c .before .before .before .before .before .before .before .before .before .args .ip) (c .before .before .before .before .before .before .before .before .before .args .end) (c .before .before .before .before .before .before .before .before .before .args .floor) _ _ (c .before .before .before .before .before .before .before .before .before .pre .1 .0) (c .before .before .before .before .before .before .before .before .before .pre .1 .1 .0) (c .before .before .before .before .before .before .before .before .before .pre .1 .1 .1) (c .before .before .before .l .given .0 .0) (ap Outcomes.elseOf (sym (c .before .before .before .l .given .1)) ∙ c .before .before .before .before .before .layout-of .ensures) in (omega (arith, q .0, q .1, q .2, c .before .before .before .before .before .before .before .before .before .pre .0), record { placed = c .before .before .before .before .before .before .before .before .before .pre .1 .0 .placed; from = c .before .before .before .before .before .before .before .before .before .args .ip + 1; arm = q .3; after = omega arith; before = omega (arith, q .0); floor-low = c .before .before .before .before .before .before .before .before .before .pre .1 .0 .floor-low; height-low = c .before .before .before .before .before .before .before .before .before .pre .1 .0 .height-low; breaks-low = c .before .before .before .before .before .before .before .before .before .pre .1 .0 .breaks-low })
 
--- src/lib.rt:573:39
+-- src/lib.rt:652:27
 arms-at-enum-told-3 : (t : ℕ) → arms-at-lts.Need-enum-told-3 (
   layout-of-reads.Asked,
   layout-of-reads.Learnt,
@@ -319,7 +319,7 @@ arms-at-enum-told-3 : (t : ℕ) → arms-at-lts.Need-enum-told-3 (
 ) (arms-at-at t) arms-at.Post
 arms-at-enum-told-3 t c = search needs
 
--- src/lib.rt:573:39
+-- src/lib.rt:652:27
 arms-at-add-t39 : (t : ℕ) → arms-at-lts.Need-add-t39 (
   layout-of-reads.Asked,
   layout-of-reads.Learnt,
@@ -331,7 +331,7 @@ arms-at-add-t39 : (t : ℕ) → arms-at-lts.Need-add-t39 (
 unfolding Outcomes.elseOf
 arms-at-add-t39 t c = let q = Cycle.two-arms-in (c .before .before .before .before .before .before .before .before .before .before .before .before .before .before .before .before .args .t .now) (c .before .before .before .before .before .before .before .before .before .before .before .before .before .before .before .before .args .heights .now) (c .before .before .before .before .before .before .before .before .before .before .before .before .before .before .before .before .args .blinds .now) (c .before .before .before .before .before .before .before .before .before .before .before .before .before .before .before .before .args .x) (c .before .before .before .before .before .before .before .before .before .before .before .before .before .before .before .before .args .target) (c .before .before .before .before .before .before .before .before .before .before .before .before .before .before .before .before .args .ip) (c .before .before .before .before .before .before .before .before .before .before .before .before .before .before .before .before .args .end) (c .before .before .before .before .before .before .before .before .before .before .before .before .before .before .before .before .args .floor) _ _ (c .before .before .before .before .before .before .before .before .before .before .before .before .before .before .before .before .pre .1 .0) (c .before .before .before .before .before .before .before .before .before .before .before .before .before .before .before .before .pre .1 .1 .0) (c .before .before .before .before .before .before .before .before .before .before .before .before .before .before .before .before .pre .1 .1 .1) (c .before .before .before .before .before .before .before .before .before .before .l .given .0 .0) (ap Outcomes.elseOf (sym (c .before .before .before .before .before .before .before .before .before .before .l .given .1)) ∙ c .before .before .before .before .before .before .before .before .before .before .before .before .layout-of .ensures) in omega (arith, q .2, c .before .before .before .before .before .before .before .before .before .before .before .before .before .before .before .before .fits)
 
--- src/lib.rt:573:17
+-- src/lib.rt:651:17
 arms-at-same-length-3 : (t : ℕ) → arms-at-lts.Need-same-length-3 (
   layout-of-reads.Asked,
   layout-of-reads.Learnt,
@@ -342,7 +342,7 @@ arms-at-same-length-3 : (t : ℕ) → arms-at-lts.Need-same-length-3 (
 ) (arms-at-at t) arms-at.Post
 arms-at-same-length-3 t c = search needs
 
--- src/lib.rt:573:17
+-- src/lib.rt:651:17
 arms-at-same-length-4 : (t : ℕ) → arms-at-lts.Need-same-length-4 (
   layout-of-reads.Asked,
   layout-of-reads.Learnt,
@@ -353,7 +353,7 @@ arms-at-same-length-4 : (t : ℕ) → arms-at-lts.Need-same-length-4 (
 ) (arms-at-at t) arms-at.Post
 arms-at-same-length-4 t c = search needs
 
--- src/lib.rt:573:17
+-- src/lib.rt:651:17
 arms-at-returns-2 : (t : ℕ) → arms-at-lts.Need-returns-2 (
   layout-of-reads.Asked,
   layout-of-reads.Learnt,
@@ -365,7 +365,7 @@ arms-at-returns-2 : (t : ℕ) → arms-at-lts.Need-returns-2 (
 unfolding Outcomes.elseOf
 arms-at-returns-2 t c = (Cycle.then-refused (c .before .before .before .before .before .before .before .before .before .before .before .before .before .before .before .before .args .t .now) (c .before .before .before .before .before .before .before .before .before .before .before .before .before .before .before .before .args .x) (c .before .before .before .before .before .before .before .before .before .before .before .before .before .before .before .before .args .target) (c .before .before .before .before .before .before .before .before .before .before .before .before .before .before .before .before .args .ip) (c .before .before .before .before .before .before .before .before .before .before .before .before .before .before .before .before .args .end) (c .before .before .before .before .before .before .before .before .before .before .before .before .before .before .before .before .args .floor) (c .before .before .before .before .before .before .before .before .before .before .before .before .before .before .before .before .args .s) (c .before .before .before .before .before .before .before .before .before .before .before .before .before .before .before .before .args .b) _ _ (c .before .before .before .before .before .before .interp-region2 .result) (c .before .before .before .before .before .before .before .before .before .before .l .given .0 .0) (ap Outcomes.elseOf (sym (c .before .before .before .before .before .before .before .before .before .before .l .given .1)) ∙ c .before .before .before .before .before .before .before .before .before .before .before .before .layout-of .ensures) (c .before .before .before .before .before .before .interp-region2 .ensures .0) ((c .before .before .before .before .before .before .before .before .before .before .l .given .0 .0) + 1) (c .enum-told3 .given .1), (let q = Cycle.two-arms-in (c .before .before .before .before .before .before .before .before .before .before .before .before .before .before .before .before .args .t .now) (c .before .before .before .before .before .before .before .before .before .before .before .before .before .before .before .before .args .heights .now) (c .before .before .before .before .before .before .before .before .before .before .before .before .before .before .before .before .args .blinds .now) (c .before .before .before .before .before .before .before .before .before .before .before .before .before .before .before .before .args .x) (c .before .before .before .before .before .before .before .before .before .before .before .before .before .before .before .before .args .target) (c .before .before .before .before .before .before .before .before .before .before .before .before .before .before .before .before .args .ip) (c .before .before .before .before .before .before .before .before .before .before .before .before .before .before .before .before .args .end) (c .before .before .before .before .before .before .before .before .before .before .before .before .before .before .before .before .args .floor) _ _ (c .before .before .before .before .before .before .before .before .before .before .before .before .before .before .before .before .pre .1 .0) (c .before .before .before .before .before .before .before .before .before .before .before .before .before .before .before .before .pre .1 .1 .0) (c .before .before .before .before .before .before .before .before .before .before .before .before .before .before .before .before .pre .1 .1 .1) (c .before .before .before .before .before .before .before .before .before .before .l .given .0 .0) (ap Outcomes.elseOf (sym (c .before .before .before .before .before .before .before .before .before .before .l .given .1)) ∙ c .before .before .before .before .before .before .before .before .before .before .before .before .layout-of .ensures) in (omega (arith, q .0, q .1), omega (arith, q .2), c .before .before .before .before .before .before .interp-region2 .ensures .1)))
 
--- src/lib.rt:576:17
+-- src/lib.rt:657:17
 arms-at-interp-region-requires-3 : (t : ℕ) → arms-at-lts.Need-interp-region-requires-3 (
   layout-of-reads.Asked,
   layout-of-reads.Learnt,
@@ -377,7 +377,7 @@ arms-at-interp-region-requires-3 : (t : ℕ) → arms-at-lts.Need-interp-region-
 unfolding Outcomes.elseOf
 arms-at-interp-region-requires-3 t c κs = let q = Cycle.two-arms-in (c .before .before .before .before .before .before .before .before .before .before .before .before .before .before .before .before .before .before .args .t .now) (c .before .before .before .before .before .before .before .before .before .before .before .before .before .before .before .before .before .before .args .heights .now) (c .before .before .before .before .before .before .before .before .before .before .before .before .before .before .before .before .before .before .args .blinds .now) (c .before .before .before .before .before .before .before .before .before .before .before .before .before .before .before .before .before .before .args .x) (c .before .before .before .before .before .before .before .before .before .before .before .before .before .before .before .before .before .before .args .target) (c .before .before .before .before .before .before .before .before .before .before .before .before .before .before .before .before .before .before .args .ip) (c .before .before .before .before .before .before .before .before .before .before .before .before .before .before .before .before .before .before .args .end) (c .before .before .before .before .before .before .before .before .before .before .before .before .before .before .before .before .before .before .args .floor) _ _ (c .before .before .before .before .before .before .before .before .before .before .before .before .before .before .before .before .before .before .pre .1 .0) (c .before .before .before .before .before .before .before .before .before .before .before .before .before .before .before .before .before .before .pre .1 .1 .0) (c .before .before .before .before .before .before .before .before .before .before .before .before .before .before .before .before .before .before .pre .1 .1 .1) (c .before .before .before .before .before .before .before .before .before .before .before .before .l .given .0 .0) (ap Outcomes.elseOf (sym (c .before .before .before .before .before .before .before .before .before .before .before .before .l .given .1)) ∙ c .before .before .before .before .before .before .before .before .before .before .before .before .before .before .layout-of .ensures) in (omega (arith, q .0, q .1, q .2, c .before .before .before .before .before .before .before .before .before .before .before .before .before .before .before .before .before .before .pre .0), record { placed = Cycle.placed-by (c .before .before .before .before .before .before .before .before .before .before .before .before .before .before .before .before .before .before .args .t .now) (c .before .before .before .before .before .before .before .before .before .before .before .before .before .before .before .before .before .before .args .heights .now) (c .before .before .before .before .before .before .before .before .before .before .before .before .before .before .before .before .before .before .args .blinds .now) _ _ (c .before .before .before .before .before .before .before .before .before .before .before .before .before .before .before .before .before .before .args .x) (c .before .before .before .before .before .before .before .before .interp-region2 .kept .1 .0) (c .before .before .before .before .before .before .before .before .interp-region2 .kept .1 .1 .0) (c .before .before .before .before .before .before .before .before .before .before .before .before .before .before .before .before .before .before .pre .1 .0 .placed); from = c .before .before .before .before .before .before .before .before .before .before .before .before .before .before .before .before .before .before .args .target; arm = q .4; after = omega arith; before = q .1; floor-low = c .before .before .before .before .before .before .before .before .before .before .before .before .before .before .before .before .before .before .pre .1 .0 .floor-low; height-low = c .before .before .before .before .before .before .before .before .before .before .before .before .before .before .before .before .before .before .pre .1 .0 .height-low; breaks-low = c .before .before .before .before .before .before .before .before .interp-region2 .ensures .1 .1 })
 
--- src/lib.rt:579:39
+-- src/lib.rt:661:27
 arms-at-enum-told-4 : (t : ℕ) → arms-at-lts.Need-enum-told-4 (
   layout-of-reads.Asked,
   layout-of-reads.Learnt,
@@ -388,7 +388,7 @@ arms-at-enum-told-4 : (t : ℕ) → arms-at-lts.Need-enum-told-4 (
 ) (arms-at-at t) arms-at.Post
 arms-at-enum-told-4 t c = search needs
 
--- src/lib.rt:579:39
+-- src/lib.rt:661:27
 arms-at-add-t44 : (t : ℕ) → arms-at-lts.Need-add-t44 (
   layout-of-reads.Asked,
   layout-of-reads.Learnt,
@@ -400,7 +400,7 @@ arms-at-add-t44 : (t : ℕ) → arms-at-lts.Need-add-t44 (
 unfolding Outcomes.elseOf
 arms-at-add-t44 t c = let q = Cycle.two-arms-in (c .before .before .before .before .before .before .before .before .before .before .before .before .before .before .before .before .before .before .before .before .before .before .before .before .before .args .t .now) (c .before .before .before .before .before .before .before .before .before .before .before .before .before .before .before .before .before .before .before .before .before .before .before .before .before .args .heights .now) (c .before .before .before .before .before .before .before .before .before .before .before .before .before .before .before .before .before .before .before .before .before .before .before .before .before .args .blinds .now) (c .before .before .before .before .before .before .before .before .before .before .before .before .before .before .before .before .before .before .before .before .before .before .before .before .before .args .x) (c .before .before .before .before .before .before .before .before .before .before .before .before .before .before .before .before .before .before .before .before .before .before .before .before .before .args .target) (c .before .before .before .before .before .before .before .before .before .before .before .before .before .before .before .before .before .before .before .before .before .before .before .before .before .args .ip) (c .before .before .before .before .before .before .before .before .before .before .before .before .before .before .before .before .before .before .before .before .before .before .before .before .before .args .end) (c .before .before .before .before .before .before .before .before .before .before .before .before .before .before .before .before .before .before .before .before .before .before .before .before .before .args .floor) _ _ (c .before .before .before .before .before .before .before .before .before .before .before .before .before .before .before .before .before .before .before .before .before .before .before .before .before .pre .1 .0) (c .before .before .before .before .before .before .before .before .before .before .before .before .before .before .before .before .before .before .before .before .before .before .before .before .before .pre .1 .1 .0) (c .before .before .before .before .before .before .before .before .before .before .before .before .before .before .before .before .before .before .before .before .before .before .before .before .before .pre .1 .1 .1) (c .before .before .before .before .before .before .before .before .before .before .before .before .before .before .before .before .before .before .before .l .given .0 .0) (ap Outcomes.elseOf (sym (c .before .before .before .before .before .before .before .before .before .before .before .before .before .before .before .before .before .before .before .l .given .1)) ∙ c .before .before .before .before .before .before .before .before .before .before .before .before .before .before .before .before .before .before .before .before .before .layout-of .ensures) in omega (arith, q .2, c .before .before .before .before .before .before .before .before .before .before .before .before .before .before .before .before .before .before .before .before .before .before .before .before .before .fits)
 
--- src/lib.rt:579:17
+-- src/lib.rt:660:17
 arms-at-same-length-5 : (t : ℕ) → arms-at-lts.Need-same-length-5 (
   layout-of-reads.Asked,
   layout-of-reads.Learnt,
@@ -411,7 +411,7 @@ arms-at-same-length-5 : (t : ℕ) → arms-at-lts.Need-same-length-5 (
 ) (arms-at-at t) arms-at.Post
 arms-at-same-length-5 t c = search needs
 
--- src/lib.rt:579:17
+-- src/lib.rt:660:17
 arms-at-same-length-6 : (t : ℕ) → arms-at-lts.Need-same-length-6 (
   layout-of-reads.Asked,
   layout-of-reads.Learnt,
@@ -422,7 +422,7 @@ arms-at-same-length-6 : (t : ℕ) → arms-at-lts.Need-same-length-6 (
 ) (arms-at-at t) arms-at.Post
 arms-at-same-length-6 t c = search needs
 
--- src/lib.rt:579:17
+-- src/lib.rt:660:17
 arms-at-returns-3 : (t : ℕ) → arms-at-lts.Need-returns-3 (
   layout-of-reads.Asked,
   layout-of-reads.Learnt,
@@ -434,7 +434,7 @@ arms-at-returns-3 : (t : ℕ) → arms-at-lts.Need-returns-3 (
 unfolding Outcomes.elseOf
 arms-at-returns-3 t c = (Cycle.else-refused (c .before .before .before .before .before .before .before .before .before .before .before .before .before .before .before .before .before .before .before .before .before .before .before .before .before .args .t .now) (c .before .before .before .before .before .before .before .before .before .before .before .before .before .before .before .before .before .before .before .before .before .before .before .before .before .args .x) (c .before .before .before .before .before .before .before .before .before .before .before .before .before .before .before .before .before .before .before .before .before .before .before .before .before .args .target) (c .before .before .before .before .before .before .before .before .before .before .before .before .before .before .before .before .before .before .before .before .before .before .before .before .before .args .ip) (c .before .before .before .before .before .before .before .before .before .before .before .before .before .before .before .before .before .before .before .before .before .before .before .before .before .args .end) (c .before .before .before .before .before .before .before .before .before .before .before .before .before .before .before .before .before .before .before .before .before .before .before .before .before .args .floor) (c .before .before .before .before .before .before .before .before .before .before .before .before .before .before .before .before .before .before .before .before .before .before .before .before .before .args .s) (c .before .before .before .before .before .before .before .before .before .before .before .before .before .before .before .before .before .before .before .before .before .before .before .before .before .args .b) _ _ (c .before .before .before .before .before .before .before .before .before .before .before .before .before .before .before .interp-region2 .result) (c .before .before .before .before .before .before .before .before .before .before .before .before .before .before .before .before .before .before .before .l .given .0 .0) (ap Outcomes.elseOf (sym (c .before .before .before .before .before .before .before .before .before .before .before .before .before .before .before .before .before .before .before .l .given .1)) ∙ c .before .before .before .before .before .before .before .before .before .before .before .before .before .before .before .before .before .before .before .before .before .layout-of .ensures) (c .before .before .before .before .before .before .before .before .before .before .before .before .before .before .before .interp-region2 .ensures .0) (Laws.open-by (c .before .before .before .before .before .before .before .before .before .before .before .before .before .before .before .interp-region2 .result .flow) (c .before .before .before .before .before .before .before .before .before .before .match3 .keys2)) (c .before .before .before .before .before .before .interp-region3 .result) _ (c .before .before .before .before .before .before .interp-region3 .ensures .0) ((c .before .before .before .before .before .before .before .before .before .before .before .before .before .before .before .before .before .before .before .l .given .0 .0) + 1) (c .enum-told4 .given .1), (let q = Cycle.two-arms-in (c .before .before .before .before .before .before .before .before .before .before .before .before .before .before .before .before .before .before .before .before .before .before .before .before .before .args .t .now) (c .before .before .before .before .before .before .before .before .before .before .before .before .before .before .before .before .before .before .before .before .before .before .before .before .before .args .heights .now) (c .before .before .before .before .before .before .before .before .before .before .before .before .before .before .before .before .before .before .before .before .before .before .before .before .before .args .blinds .now) (c .before .before .before .before .before .before .before .before .before .before .before .before .before .before .before .before .before .before .before .before .before .before .before .before .before .args .x) (c .before .before .before .before .before .before .before .before .before .before .before .before .before .before .before .before .before .before .before .before .before .before .before .before .before .args .target) (c .before .before .before .before .before .before .before .before .before .before .before .before .before .before .before .before .before .before .before .before .before .before .before .before .before .args .ip) (c .before .before .before .before .before .before .before .before .before .before .before .before .before .before .before .before .before .before .before .before .before .before .before .before .before .args .end) (c .before .before .before .before .before .before .before .before .before .before .before .before .before .before .before .before .before .before .before .before .before .before .before .before .before .args .floor) _ _ (c .before .before .before .before .before .before .before .before .before .before .before .before .before .before .before .before .before .before .before .before .before .before .before .before .before .pre .1 .0) (c .before .before .before .before .before .before .before .before .before .before .before .before .before .before .before .before .before .before .before .before .before .before .before .before .before .pre .1 .1 .0) (c .before .before .before .before .before .before .before .before .before .before .before .before .before .before .before .before .before .before .before .before .before .before .before .before .before .pre .1 .1 .1) (c .before .before .before .before .before .before .before .before .before .before .before .before .before .before .before .before .before .before .before .l .given .0 .0) (ap Outcomes.elseOf (sym (c .before .before .before .before .before .before .before .before .before .before .before .before .before .before .before .before .before .before .before .l .given .1)) ∙ c .before .before .before .before .before .before .before .before .before .before .before .before .before .before .before .before .before .before .before .before .before .layout-of .ensures) in (omega (arith, q .0, q .1), omega (arith, q .2), c .before .before .before .before .before .before .interp-region3 .ensures .1)))
 
--- src/lib.rt:581:17
+-- src/lib.rt:665:17
 arms-at-join-ends-requires-2 : (t : ℕ) → arms-at-lts.Need-join-ends-requires-2 (
   layout-of-reads.Asked,
   layout-of-reads.Learnt,
@@ -445,7 +445,7 @@ arms-at-join-ends-requires-2 : (t : ℕ) → arms-at-lts.Need-join-ends-requires
 ) (arms-at-at t) arms-at.Post
 arms-at-join-ends-requires-2 t c κs = (c .before .before .before .before .before .before .before .before .before .before .before .before .before .before .interp-region2 .ensures .1 .0, c .before .before .before .before .before .interp-region3 .ensures .1 .0, c .before .before .before .before .before .interp-region3 .ensures .1 .1, omega (arith, c .before .before .before .before .before .before .before .before .before .before .before .before .before .before .before .before .before .before .before .before .before .before .before .before .pre .1 .0 .placed .of .locals, locals-low (c .before .before .before .before .before .before .before .before .before .before .before .before .before .before .before .before .before .before .before .before .before .before .before .before .args .t .now) (c .before .before .before .before .before .before .before .before .before .before .before .before .before .before .before .before .before .before .before .before .before .before .before .before .args .x .chunk)), (Laws.open-by (c .before .before .before .before .before .before .before .before .before .before .before .before .before .before .interp-region2 .result .flow) (c .before .before .before .before .before .before .before .before .before .match3 .keys2)), (Laws.open-by (c .before .before .before .before .before .interp-region3 .result .flow) (c .match4 .keys2)))
 
--- src/lib.rt:582:28
+-- src/lib.rt:667:23
 arms-at-add-t37 : (t : ℕ) → arms-at-lts.Need-add-t37 (
   layout-of-reads.Asked,
   layout-of-reads.Learnt,
@@ -457,7 +457,7 @@ arms-at-add-t37 : (t : ℕ) → arms-at-lts.Need-add-t37 (
 unfolding Outcomes.elseOf
 arms-at-add-t37 t c = let q = Cycle.two-arms-in (c .before .before .before .before .before .before .before .before .before .before .before .before .before .before .before .before .before .before .before .before .before .before .before .before .before .args .t .now) (c .before .before .before .before .before .before .before .before .before .before .before .before .before .before .before .before .before .before .before .before .before .before .before .before .before .args .heights .now) (c .before .before .before .before .before .before .before .before .before .before .before .before .before .before .before .before .before .before .before .before .before .before .before .before .before .args .blinds .now) (c .before .before .before .before .before .before .before .before .before .before .before .before .before .before .before .before .before .before .before .before .before .before .before .before .before .args .x) (c .before .before .before .before .before .before .before .before .before .before .before .before .before .before .before .before .before .before .before .before .before .before .before .before .before .args .target) (c .before .before .before .before .before .before .before .before .before .before .before .before .before .before .before .before .before .before .before .before .before .before .before .before .before .args .ip) (c .before .before .before .before .before .before .before .before .before .before .before .before .before .before .before .before .before .before .before .before .before .before .before .before .before .args .end) (c .before .before .before .before .before .before .before .before .before .before .before .before .before .before .before .before .before .before .before .before .before .before .before .before .before .args .floor) _ _ (c .before .before .before .before .before .before .before .before .before .before .before .before .before .before .before .before .before .before .before .before .before .before .before .before .before .pre .1 .0) (c .before .before .before .before .before .before .before .before .before .before .before .before .before .before .before .before .before .before .before .before .before .before .before .before .before .pre .1 .1 .0) (c .before .before .before .before .before .before .before .before .before .before .before .before .before .before .before .before .before .before .before .before .before .before .before .before .before .pre .1 .1 .1) (c .before .before .before .before .before .before .before .before .before .before .before .before .before .before .before .before .before .before .before .l .given .0 .0) (ap Outcomes.elseOf (sym (c .before .before .before .before .before .before .before .before .before .before .before .before .before .before .before .before .before .before .before .l .given .1)) ∙ c .before .before .before .before .before .before .before .before .before .before .before .before .before .before .before .before .before .before .before .before .before .layout-of .ensures) in omega (arith, q .2, c .before .before .before .before .before .before .before .before .before .before .before .before .before .before .before .before .before .before .before .before .before .before .before .before .before .fits)
 
--- src/lib.rt:539:1
+-- src/lib.rt:607:1
 arms-at-same-length-7 : (t : ℕ) → arms-at-lts.Need-same-length-7 (
   layout-of-reads.Asked,
   layout-of-reads.Learnt,
@@ -468,7 +468,7 @@ arms-at-same-length-7 : (t : ℕ) → arms-at-lts.Need-same-length-7 (
 ) (arms-at-at t) arms-at.Post
 arms-at-same-length-7 t c = search needs
 
--- src/lib.rt:539:1
+-- src/lib.rt:607:1
 arms-at-same-length-8 : (t : ℕ) → arms-at-lts.Need-same-length-8 (
   layout-of-reads.Asked,
   layout-of-reads.Learnt,
@@ -479,7 +479,7 @@ arms-at-same-length-8 : (t : ℕ) → arms-at-lts.Need-same-length-8 (
 ) (arms-at-at t) arms-at.Post
 arms-at-same-length-8 t c = search needs
 
--- src/lib.rt:539:1
+-- src/lib.rt:607:1
 arms-at-returns-4 : (t : ℕ) → arms-at-lts.Need-returns-4 (
   layout-of-reads.Asked,
   layout-of-reads.Learnt,
@@ -491,7 +491,7 @@ arms-at-returns-4 : (t : ℕ) → arms-at-lts.Need-returns-4 (
 unfolding Outcomes.elseOf Outcomes.fallOf
 arms-at-returns-4 t c = (Cycle.one-joined (c .before .before .before .before .before .before .before .before .before .before .before .before .before .before .before .before .args .t .now) (c .before .before .before .before .before .before .before .before .before .before .before .before .before .before .before .before .args .x) (c .before .before .before .before .before .before .before .before .before .before .before .before .before .before .before .before .args .target) (c .before .before .before .before .before .before .before .before .before .before .before .before .before .before .before .before .args .ip) (c .before .before .before .before .before .before .before .before .before .before .before .before .before .before .before .before .args .end) (c .before .before .before .before .before .before .before .before .before .before .before .before .before .before .before .before .args .floor) (c .before .before .before .before .before .before .before .before .before .before .before .before .before .before .before .before .args .s) (c .before .before .before .before .before .before .before .before .before .before .before .before .before .before .before .before .args .b) _ _ (c .before .before .before .before .before .before .before .interp-region .result) (ap Outcomes.elseOf (sym (c .before .before .before .before .before .before .before .before .before .before .enum-told .given .1)) ∙ c .before .before .before .before .before .before .before .before .before .before .before .before .layout-of .ensures) (c .before .before .before .before .before .before .before .interp-region .ensures .0) (Laws.open-by (c .before .before .before .before .before .before .before .interp-region .result .flow) (c .before .before .match2 .keys2)) (c .join-ends .result) (c .join-ends .ensures .0 _), (let q = Cycle.one-arm-in (c .before .before .before .before .before .before .before .before .before .before .before .before .before .before .before .before .args .t .now) (c .before .before .before .before .before .before .before .before .before .before .before .before .before .before .before .before .args .heights .now) (c .before .before .before .before .before .before .before .before .before .before .before .before .before .before .before .before .args .blinds .now) (c .before .before .before .before .before .before .before .before .before .before .before .before .before .before .before .before .args .x) (c .before .before .before .before .before .before .before .before .before .before .before .before .before .before .before .before .args .target) (c .before .before .before .before .before .before .before .before .before .before .before .before .before .before .before .before .args .ip) (c .before .before .before .before .before .before .before .before .before .before .before .before .before .before .before .before .args .end) (c .before .before .before .before .before .before .before .before .before .before .before .before .before .before .before .before .args .floor) _ _ (c .before .before .before .before .before .before .before .before .before .before .before .before .before .before .before .before .pre .1 .0) (c .before .before .before .before .before .before .before .before .before .before .before .before .before .before .before .before .pre .1 .1 .0) (c .before .before .before .before .before .before .before .before .before .before .before .before .before .before .before .before .pre .1 .1 .1) (ap Outcomes.elseOf (sym (c .before .before .before .before .before .before .before .before .before .before .enum-told .given .1)) ∙ c .before .before .before .before .before .before .before .before .before .before .before .before .layout-of .ensures) in (omega (arith, q .0), omega (arith, q .1), c .join-ends .ensures .1)))
 
--- src/lib.rt:539:1
+-- src/lib.rt:607:1
 arms-at-same-length-9 : (t : ℕ) → arms-at-lts.Need-same-length-9 (
   layout-of-reads.Asked,
   layout-of-reads.Learnt,
@@ -502,7 +502,7 @@ arms-at-same-length-9 : (t : ℕ) → arms-at-lts.Need-same-length-9 (
 ) (arms-at-at t) arms-at.Post
 arms-at-same-length-9 t c = search needs
 
--- src/lib.rt:539:1
+-- src/lib.rt:607:1
 arms-at-same-length-10 : (t : ℕ) → arms-at-lts.Need-same-length-10 (
   layout-of-reads.Asked,
   layout-of-reads.Learnt,
@@ -513,7 +513,7 @@ arms-at-same-length-10 : (t : ℕ) → arms-at-lts.Need-same-length-10 (
 ) (arms-at-at t) arms-at.Post
 arms-at-same-length-10 t c = search needs
 
--- src/lib.rt:539:1
+-- src/lib.rt:607:1
 arms-at-returns-5 : (t : ℕ) → arms-at-lts.Need-returns-5 (
   layout-of-reads.Asked,
   layout-of-reads.Learnt,
@@ -525,7 +525,7 @@ arms-at-returns-5 : (t : ℕ) → arms-at-lts.Need-returns-5 (
 unfolding Outcomes.elseOf
 arms-at-returns-5 t c = (Cycle.both-joined (c .before .before .before .before .before .before .before .before .before .before .before .before .before .before .before .before .before .before .before .before .before .before .before .before .before .args .t .now) (c .before .before .before .before .before .before .before .before .before .before .before .before .before .before .before .before .before .before .before .before .before .before .before .before .before .args .x) (c .before .before .before .before .before .before .before .before .before .before .before .before .before .before .before .before .before .before .before .before .before .before .before .before .before .args .target) (c .before .before .before .before .before .before .before .before .before .before .before .before .before .before .before .before .before .before .before .before .before .before .before .before .before .args .ip) (c .before .before .before .before .before .before .before .before .before .before .before .before .before .before .before .before .before .before .before .before .before .before .before .before .before .args .end) (c .before .before .before .before .before .before .before .before .before .before .before .before .before .before .before .before .before .before .before .before .before .before .before .before .before .args .floor) (c .before .before .before .before .before .before .before .before .before .before .before .before .before .before .before .before .before .before .before .before .before .before .before .before .before .args .s) (c .before .before .before .before .before .before .before .before .before .before .before .before .before .before .before .before .before .before .before .before .before .before .before .before .before .args .b) _ _ (c .before .before .before .before .before .before .before .before .before .before .before .before .before .before .before .interp-region2 .result) (c .before .before .before .before .before .before .before .before .before .before .before .before .before .before .before .before .before .before .before .l .given .0 .0) (ap Outcomes.elseOf (sym (c .before .before .before .before .before .before .before .before .before .before .before .before .before .before .before .before .before .before .before .l .given .1)) ∙ c .before .before .before .before .before .before .before .before .before .before .before .before .before .before .before .before .before .before .before .before .before .layout-of .ensures) (c .before .before .before .before .before .before .before .before .before .before .before .before .before .before .before .interp-region2 .ensures .0) (Laws.open-by (c .before .before .before .before .before .before .before .before .before .before .before .before .before .before .before .interp-region2 .result .flow) (c .before .before .before .before .before .before .before .before .before .before .match3 .keys2)) (c .before .before .before .before .before .before .interp-region3 .result) _ (c .before .before .before .before .before .before .interp-region3 .ensures .0) (Laws.open-by (c .before .before .before .before .before .before .interp-region3 .result .flow) (c .before .match4 .keys2)) (c .join-ends2 .result) (c .join-ends2 .ensures .0 _), (let q = Cycle.two-arms-in (c .before .before .before .before .before .before .before .before .before .before .before .before .before .before .before .before .before .before .before .before .before .before .before .before .before .args .t .now) (c .before .before .before .before .before .before .before .before .before .before .before .before .before .before .before .before .before .before .before .before .before .before .before .before .before .args .heights .now) (c .before .before .before .before .before .before .before .before .before .before .before .before .before .before .before .before .before .before .before .before .before .before .before .before .before .args .blinds .now) (c .before .before .before .before .before .before .before .before .before .before .before .before .before .before .before .before .before .before .before .before .before .before .before .before .before .args .x) (c .before .before .before .before .before .before .before .before .before .before .before .before .before .before .before .before .before .before .before .before .before .before .before .before .before .args .target) (c .before .before .before .before .before .before .before .before .before .before .before .before .before .before .before .before .before .before .before .before .before .before .before .before .before .args .ip) (c .before .before .before .before .before .before .before .before .before .before .before .before .before .before .before .before .before .before .before .before .before .before .before .before .before .args .end) (c .before .before .before .before .before .before .before .before .before .before .before .before .before .before .before .before .before .before .before .before .before .before .before .before .before .args .floor) _ _ (c .before .before .before .before .before .before .before .before .before .before .before .before .before .before .before .before .before .before .before .before .before .before .before .before .before .pre .1 .0) (c .before .before .before .before .before .before .before .before .before .before .before .before .before .before .before .before .before .before .before .before .before .before .before .before .before .pre .1 .1 .0) (c .before .before .before .before .before .before .before .before .before .before .before .before .before .before .before .before .before .before .before .before .before .before .before .before .before .pre .1 .1 .1) (c .before .before .before .before .before .before .before .before .before .before .before .before .before .before .before .before .before .before .before .l .given .0 .0) (ap Outcomes.elseOf (sym (c .before .before .before .before .before .before .before .before .before .before .before .before .before .before .before .before .before .before .before .l .given .1)) ∙ c .before .before .before .before .before .before .before .before .before .before .before .before .before .before .before .before .before .before .before .before .before .layout-of .ensures) in (omega (arith, q .0, q .1), omega (arith, q .2), c .join-ends2 .ensures .1)))
 
--- src/lib.rt:505:15
+-- src/lib.rt:574:15
 block-at-if-at-requires : (t : ℕ) → block-at-lts.Need-if-at-requires (
   if-at-below t,
   if-at.Post,
@@ -537,7 +537,7 @@ block-at-if-at-requires : (t : ℕ) → block-at-lts.Need-if-at-requires (
 unfolding Ready.leads
 block-at-if-at-requires t c κs = (omega (arith, c .before .before .before .before .before .before .pre .0, (c .before .before .before .before .before .before .pre .1 .1 .0)), (c .before .before .before .before .before .before .pre .1 .0, ((c .before .before .before .before .before .before .pre .1 .1 .0), (c .before .before .before .before .before .before .pre .1 .1 .3) ∙ ap (λ (k : ℕ). Ready.leads k (c .before .before .before .before .before .before .args .target)) (c .before .before .match .keys1))))
 
--- src/lib.rt:506:15
+-- src/lib.rt:575:15
 block-at-loop-at-requires : (t : ℕ) → block-at-lts.Need-loop-at-requires (
   if-at-below t,
   if-at.Post,
@@ -549,7 +549,7 @@ block-at-loop-at-requires : (t : ℕ) → block-at-lts.Need-loop-at-requires (
 unfolding Ready.leads
 block-at-loop-at-requires t c κs = (omega (arith, c .before .before .before .before .before .before .pre .0, (c .before .before .before .before .before .before .pre .1 .1 .0)), (c .before .before .before .before .before .before .pre .1 .0, ((c .before .before .before .before .before .before .pre .1 .1 .0), (c .before .before .before .before .before .before .pre .1 .1 .3) ∙ ap (λ (k : ℕ). Ready.leads k (c .before .before .before .before .before .before .args .target)) (c .before .before .match .keys2))))
 
--- src/lib.rt:507:14
+-- src/lib.rt:576:14
 block-at-leaf-at-requires : (t : ℕ) → block-at-lts.Need-leaf-at-requires (
   if-at-below t,
   if-at.Post,
@@ -560,7 +560,7 @@ block-at-leaf-at-requires : (t : ℕ) → block-at-lts.Need-leaf-at-requires (
 ) (block-at-at t) block-at.Post
 block-at-leaf-at-requires t c κs = (c .before .before .before .before .before .before .pre .1 .0 .placed, ((Cycle.inside (c .before .before .before .before .before .before .args .t .now) (c .before .before .before .before .before .before .args .heights .now) (c .before .before .before .before .before .before .args .blinds .now) (c .before .before .before .before .before .before .args .x) (c .before .before .before .before .before .before .args .ip) (c .before .before .before .before .before .before .args .end) (c .before .before .before .before .before .before .args .floor) _ _ (c .before .before .before .before .before .before .pre .1 .0) (c .before .before .before .before .before .before .pre .1 .1 .0), c .before .before .before .before .before .before .pre .1 .0 .floor-low, c .before .before .before .before .before .before .pre .1 .0 .height-low, c .before .before .before .before .before .before .pre .1 .0 .breaks-low, c .before .before .before .before .before .before .pre .1 .1 .1, c .before .before .before .before .before .before .pre .1 .1 .2, c .before .before .match .rest .0 .1, c .before .before .match .rest .1), (c .before .before .before .before .before .before .pre .1 .1 .3)))
 
--- src/lib.rt:487:1
+-- src/lib.rt:556:1
 block-at-same-length : (t : ℕ) → block-at-lts.Need-same-length (
   if-at-below t,
   if-at.Post,
@@ -571,7 +571,7 @@ block-at-same-length : (t : ℕ) → block-at-lts.Need-same-length (
 ) (block-at-at t) block-at.Post
 block-at-same-length t c = search needs
 
--- src/lib.rt:487:1
+-- src/lib.rt:556:1
 block-at-same-length-2 : (t : ℕ) → block-at-lts.Need-same-length-2 (
   if-at-below t,
   if-at.Post,
@@ -582,7 +582,7 @@ block-at-same-length-2 : (t : ℕ) → block-at-lts.Need-same-length-2 (
 ) (block-at-at t) block-at.Post
 block-at-same-length-2 t c = search needs
 
--- src/lib.rt:487:1
+-- src/lib.rt:556:1
 block-at-returns : (t : ℕ) → block-at-lts.Need-returns (
   if-at-below t,
   if-at.Post,
@@ -594,7 +594,7 @@ block-at-returns : (t : ℕ) → block-at-lts.Need-returns (
 unfolding Ready.leads
 block-at-returns t c = (c .before .before .before .before .if-at .ensures .0 ∙ ap (λ (k : ℕ). Ready.visitIn (c .before .before .before .before .before .before .before .before .before .before .before .args .t .now) (c .before .before .before .before .before .before .before .before .before .before .before .args .x) (c .before .before .before .before .before .before .before .before .before .before .before .args .ip) (c .before .before .before .before .before .before .before .before .before .before .before .args .end) (c .before .before .before .before .before .before .before .before .before .before .before .args .floor) (c .before .before .before .before .before .before .before .before .before .before .before .args .s) (c .before .before .before .before .before .before .before .before .before .before .before .args .b) (Ready.sheetsOf (c .before .before .before .before .before .before .before .before .before .before .before .args .heights .now) (c .before .before .before .before .before .before .before .before .before .before .before .args .blinds .now)) (Ready.leads k (c .before .before .before .before .before .before .before .before .before .before .before .args .target))) (sym (c .before .before .before .before .before .before .before .match .keys1)), c .before .before .before .before .if-at .ensures .1)
 
--- src/lib.rt:487:1
+-- src/lib.rt:556:1
 block-at-same-length-3 : (t : ℕ) → block-at-lts.Need-same-length-3 (
   if-at-below t,
   if-at.Post,
@@ -605,7 +605,7 @@ block-at-same-length-3 : (t : ℕ) → block-at-lts.Need-same-length-3 (
 ) (block-at-at t) block-at.Post
 block-at-same-length-3 t c = search needs
 
--- src/lib.rt:487:1
+-- src/lib.rt:556:1
 block-at-same-length-4 : (t : ℕ) → block-at-lts.Need-same-length-4 (
   if-at-below t,
   if-at.Post,
@@ -616,7 +616,7 @@ block-at-same-length-4 : (t : ℕ) → block-at-lts.Need-same-length-4 (
 ) (block-at-at t) block-at.Post
 block-at-same-length-4 t c = search needs
 
--- src/lib.rt:487:1
+-- src/lib.rt:556:1
 block-at-returns-2 : (t : ℕ) → block-at-lts.Need-returns-2 (
   if-at-below t,
   if-at.Post,
@@ -628,7 +628,7 @@ block-at-returns-2 : (t : ℕ) → block-at-lts.Need-returns-2 (
 unfolding Ready.leads
 block-at-returns-2 t c = (c .before .before .before .before .loop-at .ensures .0 ∙ ap (λ (k : ℕ). Ready.visitIn (c .before .before .before .before .before .before .before .before .before .before .before .args .t .now) (c .before .before .before .before .before .before .before .before .before .before .before .args .x) (c .before .before .before .before .before .before .before .before .before .before .before .args .ip) (c .before .before .before .before .before .before .before .before .before .before .before .args .end) (c .before .before .before .before .before .before .before .before .before .before .before .args .floor) (c .before .before .before .before .before .before .before .before .before .before .before .args .s) (c .before .before .before .before .before .before .before .before .before .before .before .args .b) (Ready.sheetsOf (c .before .before .before .before .before .before .before .before .before .before .before .args .heights .now) (c .before .before .before .before .before .before .before .before .before .before .before .args .blinds .now)) (Ready.leads k (c .before .before .before .before .before .before .before .before .before .before .before .args .target))) (sym (c .before .before .before .before .before .before .before .match .keys2)), c .before .before .before .before .loop-at .ensures .1)
 
--- src/lib.rt:487:1
+-- src/lib.rt:556:1
 block-at-same-length-5 : (t : ℕ) → block-at-lts.Need-same-length-5 (
   if-at-below t,
   if-at.Post,
@@ -639,7 +639,7 @@ block-at-same-length-5 : (t : ℕ) → block-at-lts.Need-same-length-5 (
 ) (block-at-at t) block-at.Post
 block-at-same-length-5 t c = search needs
 
--- src/lib.rt:487:1
+-- src/lib.rt:556:1
 block-at-same-length-6 : (t : ℕ) → block-at-lts.Need-same-length-6 (
   if-at-below t,
   if-at.Post,
@@ -650,7 +650,7 @@ block-at-same-length-6 : (t : ℕ) → block-at-lts.Need-same-length-6 (
 ) (block-at-at t) block-at.Post
 block-at-same-length-6 t c = search needs
 
--- src/lib.rt:487:1
+-- src/lib.rt:556:1
 block-at-returns-3 : (t : ℕ) → block-at-lts.Need-returns-3 (
   if-at-below t,
   if-at.Post,
@@ -661,7 +661,7 @@ block-at-returns-3 : (t : ℕ) → block-at-lts.Need-returns-3 (
 ) (block-at-at t) block-at.Post
 block-at-returns-3 t c = (sym (c .before .before .before .before .leaf-at .ensures .0 (c .before .before .before .before .before .before .before .before .before .before .before .args .end)), (omega (arith, c .before .before .before .before .leaf-at .ensures .1 .0), omega (arith, c .before .before .before .before .leaf-at .ensures .1 .0, (c .before .before .before .before .before .before .before .before .before .before .before .pre .1 .1 .0)), c .before .before .before .before .leaf-at .ensures .1 .1))
 
--- src/lib.rt:528:9
+-- src/lib.rt:597:9
 if-at-examine-at-requires : (t : ℕ) → if-at-lts.Need-examine-at-requires (
   examine-at-reads.Asked,
   examine-at-reads.Learnt,
@@ -674,7 +674,7 @@ if-at-examine-at-requires : (t : ℕ) → if-at-lts.Need-examine-at-requires (
 ) (if-at-at t) if-at.Post
 if-at-examine-at-requires t c κs = (c .before .before .before .before .before .pre .1 .0 .placed, (Cycle.inside (c .before .before .before .before .before .args .t .now) (c .before .before .before .before .before .args .heights .now) (c .before .before .before .before .before .args .blinds .now) (c .before .before .before .before .before .args .x) (c .before .before .before .before .before .args .ip) (c .before .before .before .before .before .args .end) (c .before .before .before .before .before .args .floor) _ _ (c .before .before .before .before .before .pre .1 .0) (c .before .before .before .before .before .pre .1 .1 .0), c .before .before .before .before .before .pre .1 .0 .floor-low, c .before .before .before .before .before .pre .1 .0 .height-low))
 
--- src/lib.rt:530:8
+-- src/lib.rt:599:8
 if-at-passed-requires : (t : ℕ) → if-at-lts.Need-passed-requires (
   examine-at-reads.Asked,
   examine-at-reads.Learnt,
@@ -687,7 +687,7 @@ if-at-passed-requires : (t : ℕ) → if-at-lts.Need-passed-requires (
 ) (if-at-at t) if-at.Post
 if-at-passed-requires t c κs = search needs
 
--- src/lib.rt:532:9
+-- src/lib.rt:600:9
 if-at-refused-at-requires : (t : ℕ) → if-at-lts.Need-refused-at-requires (
   examine-at-reads.Asked,
   examine-at-reads.Learnt,
@@ -700,7 +700,7 @@ if-at-refused-at-requires : (t : ℕ) → if-at-lts.Need-refused-at-requires (
 ) (if-at-at t) if-at.Post
 if-at-refused-at-requires t c κs = omega (arith, Cycle.inside (c .before .before .before .before .before .before .before .before .before .before .before .before .args .t .now) (c .before .before .before .before .before .before .before .before .before .before .before .before .args .heights .now) (c .before .before .before .before .before .before .before .before .before .before .before .before .args .blinds .now) (c .before .before .before .before .before .before .before .before .before .before .before .before .args .x) (c .before .before .before .before .before .before .before .before .before .before .before .before .args .ip) (c .before .before .before .before .before .before .before .before .before .before .before .before .args .end) (c .before .before .before .before .before .before .before .before .before .before .before .before .args .floor) _ _ (c .before .before .before .before .before .before .before .before .before .before .before .before .pre .1 .0) (c .before .before .before .before .before .before .before .before .before .before .before .before .pre .1 .1 .0), c .before .before .before .before .before .before .before .before .before .before .before .before .pre .1 .0 .placed .of .within)
 
--- src/lib.rt:532:9
+-- src/lib.rt:600:9
 if-at-same-length : (t : ℕ) → if-at-lts.Need-same-length (
   examine-at-reads.Asked,
   examine-at-reads.Learnt,
@@ -713,7 +713,7 @@ if-at-same-length : (t : ℕ) → if-at-lts.Need-same-length (
 ) (if-at-at t) if-at.Post
 if-at-same-length t c = search needs
 
--- src/lib.rt:532:9
+-- src/lib.rt:600:9
 if-at-same-length-2 : (t : ℕ) → if-at-lts.Need-same-length-2 (
   examine-at-reads.Asked,
   examine-at-reads.Learnt,
@@ -726,7 +726,7 @@ if-at-same-length-2 : (t : ℕ) → if-at-lts.Need-same-length-2 (
 ) (if-at-at t) if-at.Post
 if-at-same-length-2 t c = search needs
 
--- src/lib.rt:532:9
+-- src/lib.rt:600:9
 if-at-returns : (t : ℕ) → if-at-lts.Need-returns (
   examine-at-reads.Asked,
   examine-at-reads.Learnt,
@@ -739,7 +739,7 @@ if-at-returns : (t : ℕ) → if-at-lts.Need-returns (
 ) (if-at-at t) if-at.Post
 if-at-returns t c = (sym (Steps.visit-refused (c .before .before .before .before .before .before .before .before .before .before .before .before .before .args .t .now) (c .before .before .before .before .before .before .before .before .before .before .before .before .before .args .x) (c .before .before .before .before .before .before .before .before .before .before .before .before .before .args .ip) (c .before .before .before .before .before .before .before .before .before .before .before .before .before .args .floor) (c .before .before .before .before .before .before .before .before .before .before .before .before .before .args .s) (c .before .before .before .before .before .before .before .before .before .before .before .before .before .args .b) _ (c .before .before .before .before .before .before .before .examine-at .result) (c .before .before .before .before .before .before .before .examine-at .ensures .0) (ifTo (c .before .before .before .before .before .before .before .before .before .before .before .before .before .args .target)) tt (sym (c .before .before .passed .ensures) ∙ c .before .if1 .left) (c .before .before .before .before .before .before .before .before .before .before .before .before .before .args .end) (c .refused-at .result) _ (c .refused-at .ensures .1)), (omega (arith, c .refused-at .ensures .0), omega (arith, c .refused-at .ensures .0, (c .before .before .before .before .before .before .before .before .before .before .before .before .before .pre .1 .1 .0)), (subst (λ (z : State). z .height ≤ 64) (sym (c .refused-at .ensures .2)) (c .before .before .before .before .before .before .before .before .before .before .before .before .before .pre .1 .0 .height-low), subst (λ (z : Breaks). z .state .height ≤ 64) (sym (c .refused-at .ensures .3)) (c .before .before .before .before .before .before .before .before .before .before .before .before .before .pre .1 .0 .breaks-low))))
 
--- src/lib.rt:535:5
+-- src/lib.rt:603:5
 if-at-arms-at-requires : (t : ℕ) → if-at-lts.Need-arms-at-requires (
   examine-at-reads.Asked,
   examine-at-reads.Learnt,
@@ -752,7 +752,7 @@ if-at-arms-at-requires : (t : ℕ) → if-at-lts.Need-arms-at-requires (
 ) (if-at-at t) if-at.Post
 if-at-arms-at-requires t c κs = (omega (arith, c .before .before .before .before .before .before .before .before .before .before .before .before .before .before .before .pre .0, (c .before .before .before .before .before .before .before .before .before .before .before .before .before .before .before .pre .1 .1 .0)), (record { placed = Cycle.placed-by (c .before .before .before .before .before .before .before .before .before .before .before .before .before .before .before .args .t .now) (c .before .before .before .before .before .before .before .before .before .before .before .before .before .before .before .args .heights .now) (c .before .before .before .before .before .before .before .before .before .before .before .before .before .before .before .args .blinds .now) _ _ (c .before .before .before .before .before .before .before .before .before .before .before .before .before .before .before .args .x) (c .before .before .before .before .before .before .before .before .before .examine-at .kept .1 .0) (c .before .before .before .before .before .before .before .before .before .examine-at .kept .1 .1 .0) (c .before .before .before .before .before .before .before .before .before .before .before .before .before .before .before .pre .1 .0 .placed); from = c .before .before .before .before .before .before .before .before .before .before .before .before .before .before .before .pre .1 .0 .from; arm = c .before .before .before .before .before .before .before .before .before .before .before .before .before .before .before .pre .1 .0 .arm; after = c .before .before .before .before .before .before .before .before .before .before .before .before .before .before .before .pre .1 .0 .after; before = c .before .before .before .before .before .before .before .before .before .before .before .before .before .before .before .pre .1 .0 .before; floor-low = c .before .before .before .before .before .before .before .before .before .before .before .before .before .before .before .pre .1 .0 .floor-low; height-low = c .before .before .before .before .before .before .before .before .before .examine-at .ensures .0 .low; breaks-low = c .before .before .before .before .before .before .before .before .before .before .before .before .before .before .before .pre .1 .0 .breaks-low }, ((c .before .before .before .before .before .before .before .before .before .before .before .before .before .before .before .pre .1 .1 .0), (c .before .before .before .before .before .before .before .before .before .before .before .before .before .before .before .pre .1 .1 .1))))
 
--- src/lib.rt:512:1
+-- src/lib.rt:581:1
 if-at-same-length-3 : (t : ℕ) → if-at-lts.Need-same-length-3 (
   examine-at-reads.Asked,
   examine-at-reads.Learnt,
@@ -765,7 +765,7 @@ if-at-same-length-3 : (t : ℕ) → if-at-lts.Need-same-length-3 (
 ) (if-at-at t) if-at.Post
 if-at-same-length-3 t c = search needs
 
--- src/lib.rt:512:1
+-- src/lib.rt:581:1
 if-at-same-length-4 : (t : ℕ) → if-at-lts.Need-same-length-4 (
   examine-at-reads.Asked,
   examine-at-reads.Learnt,
@@ -778,7 +778,7 @@ if-at-same-length-4 : (t : ℕ) → if-at-lts.Need-same-length-4 (
 ) (if-at-at t) if-at.Post
 if-at-same-length-4 t c = search needs
 
--- src/lib.rt:512:1
+-- src/lib.rt:581:1
 if-at-returns-2 : (t : ℕ) → if-at-lts.Need-returns-2 (
   examine-at-reads.Asked,
   examine-at-reads.Learnt,
@@ -789,15 +789,15 @@ if-at-returns-2 : (t : ℕ) → if-at-lts.Need-returns-2 (
   arms-at-below t,
   arms-at.Post,
 ) (if-at-at t) if-at.Post
-if-at-returns-2 t c = (Cycle.if-passed (c .before .before .before .before .before .before .before .before .before .before .before .before .before .before .before .before .before .before .before .before .args .t .now) (c .before .before .before .before .before .before .before .before .before .before .before .before .before .before .before .before .before .before .before .before .args .x) (c .before .before .before .before .before .before .before .before .before .before .before .before .before .before .before .before .before .before .before .before .args .target) (c .before .before .before .before .before .before .before .before .before .before .before .before .before .before .before .before .before .before .before .before .args .ip) (c .before .before .before .before .before .before .before .before .before .before .before .before .before .before .before .before .before .before .before .before .args .end) (c .before .before .before .before .before .before .before .before .before .before .before .before .before .before .before .before .before .before .before .before .args .floor) (c .before .before .before .before .before .before .before .before .before .before .before .before .before .before .before .before .before .before .before .before .args .s) (c .before .before .before .before .before .before .before .before .before .before .before .before .before .before .before .before .before .before .before .before .args .b) (c .before .before .before .before .before .before .before .before .before .before .before .before .before .before .before .before .before .before .before .before .args .heights .now) (c .before .before .before .before .before .before .before .before .before .before .before .before .before .before .before .before .before .before .before .before .args .blinds .now) _ _ (c .before .before .before .before .before .before .before .before .before .before .before .before .before .before .examine-at .result) (c .before .before .before .before .before .before .before .before .before .before .before .before .before .before .examine-at .ensures .0) (sym (c .before .before .before .before .before .before .before .before .before .passed .ensures) ∙ c .before .before .before .before .before .before .before .before .if1 .taken) (c .before .before .before .before .before .before .before .before .before .before .before .before .before .before .examine-at .ensures .1 (sym (c .before .before .before .before .before .before .before .before .before .passed .ensures) ∙ c .before .before .before .before .before .before .before .before .if1 .taken)) (c .before .before .before .before .arms-at .result) _ (c .before .before .before .before .arms-at .ensures .0), c .before .before .before .before .arms-at .ensures .1)
+if-at-returns-2 t c = (Cycle.if-passed (c .before .before .before .before .before .before .before .before .before .before .before .before .before .before .before .before .before .before .before .before .args .t .now) (c .before .before .before .before .before .before .before .before .before .before .before .before .before .before .before .before .before .before .before .before .args .x) (c .before .before .before .before .before .before .before .before .before .before .before .before .before .before .before .before .before .before .before .before .args .target) (c .before .before .before .before .before .before .before .before .before .before .before .before .before .before .before .before .before .before .before .before .args .ip) (c .before .before .before .before .before .before .before .before .before .before .before .before .before .before .before .before .before .before .before .before .args .end) (c .before .before .before .before .before .before .before .before .before .before .before .before .before .before .before .before .before .before .before .before .args .floor) (c .before .before .before .before .before .before .before .before .before .before .before .before .before .before .before .before .before .before .before .before .args .s) (c .before .before .before .before .before .before .before .before .before .before .before .before .before .before .before .before .before .before .before .before .args .b) (c .before .before .before .before .before .before .before .before .before .before .before .before .before .before .before .before .before .before .before .before .args .heights .now) (c .before .before .before .before .before .before .before .before .before .before .before .before .before .before .before .before .before .before .before .before .args .blinds .now) _ _ (c .before .before .before .before .before .before .before .before .before .before .before .before .before .before .examine-at .result) (c .before .before .before .before .before .before .before .before .before .before .before .before .before .before .examine-at .ensures .0) (sym (c .before .before .before .before .before .before .before .before .before .passed .ensures) ∙ c .before .before .before .before .before .before .before .before .if1 .taken) (c .before .before .before .before .before .before .before .before .before .before .before .before .before .before .examine-at .ensures .1) (c .before .before .before .before .arms-at .result) _ (c .before .before .before .before .arms-at .ensures .0), c .before .before .before .before .arms-at .ensures .1)
 
 abbrev interp-region-Inv-loop : interp-region-lts.InvT-loop
-interp-region-Inv-loop t heights₀ blinds₀ x start end floor base ip₀ s₀ b₀ heights blinds ip s b = Cycle.Walking t heights₀ blinds₀ x ip₀ end floor s₀ b₀ heights blinds ip s b
+interp-region-Inv-loop t heights₀ blinds₀ x start end floor first ip₀ s₀ b₀ heights blinds ip s b = Cycle.Walking t heights₀ blinds₀ x ip₀ end floor s₀ b₀ heights blinds ip s b
 
 abbrev interp-region-μ-loop : interp-region-lts.MeasureT-loop
-interp-region-μ-loop t heights₀ blinds₀ x start end floor base ip₀ s₀ b₀ heights blinds ip s b = end - ip
+interp-region-μ-loop t heights₀ blinds₀ x start end floor first ip₀ s₀ b₀ heights blinds ip s b = end - ip
 
--- src/lib.rt:448:5
+-- src/lib.rt:502:5
 interp-region-loop-holds : (t : ℕ) → interp-region-lts.Need-loop-holds (
   instr-at-reads.Asked,
   instr-at-reads.Learnt,
@@ -812,7 +812,7 @@ interp-region-loop-holds : (t : ℕ) → interp-region-lts.Need-loop-holds (
 ) (interp-region-at t) interp-region.Post interp-region-Inv-loop interp-region-μ-loop
 interp-region-loop-holds t c = record { ready = c .before .before .before .pre .1; onward = omega arith; heights-same = refl; blinds-same = refl; on = refl }
 
--- src/lib.rt:449:39
+-- src/lib.rt:503:39
 interp-region-add-instr-at : (t : ℕ) → interp-region-lts.Need-add-instr-at (
   instr-at-reads.Asked,
   instr-at-reads.Learnt,
@@ -827,7 +827,7 @@ interp-region-add-instr-at : (t : ℕ) → interp-region-lts.Need-add-instr-at (
 ) (interp-region-at t) interp-region.Post interp-region-Inv-loop interp-region-μ-loop
 interp-region-add-instr-at t c = omega (arith, Cycle.inside (c .before .before .before .before .before .args .t .now) (c .before .loop .heights) (c .before .loop .blinds) (c .before .before .before .before .before .args .x) (c .before .loop .ip) (c .before .before .before .before .before .args .end) (c .before .before .before .before .before .args .floor) _ _ ((c .before .loop .inv) .ready) (c .loop-test .taken), c .before .before .before .before .before .pre .1 .placed .of .within)
 
--- src/lib.rt:449:13
+-- src/lib.rt:503:13
 interp-region-instr-at-requires : (t : ℕ) → interp-region-lts.Need-instr-at-requires (
   instr-at-reads.Asked,
   instr-at-reads.Learnt,
@@ -842,7 +842,7 @@ interp-region-instr-at-requires : (t : ℕ) → interp-region-lts.Need-instr-at-
 ) (interp-region-at t) interp-region.Post interp-region-Inv-loop interp-region-μ-loop
 interp-region-instr-at-requires t c κs = omega (arith, Cycle.inside (c .before .before .before .before .before .args .t .now) (c .before .loop .heights) (c .before .loop .blinds) (c .before .before .before .before .before .args .x) (c .before .loop .ip) (c .before .before .before .before .before .args .end) (c .before .before .before .before .before .args .floor) _ _ ((c .before .loop .inv) .ready) (c .loop-test .taken), c .before .before .before .before .before .pre .1 .placed .of .within)
 
--- src/lib.rt:452:12
+-- src/lib.rt:506:12
 interp-region-is-straight-requires : (t : ℕ) → interp-region-lts.Need-is-straight-requires (
   instr-at-reads.Asked,
   instr-at-reads.Learnt,
@@ -857,7 +857,7 @@ interp-region-is-straight-requires : (t : ℕ) → interp-region-lts.Need-is-str
 ) (interp-region-at t) interp-region.Post interp-region-Inv-loop interp-region-μ-loop
 interp-region-is-straight-requires t c κs = search needs
 
--- src/lib.rt:453:17
+-- src/lib.rt:507:17
 interp-region-examine-at-requires : (t : ℕ) → interp-region-lts.Need-examine-at-requires (
   instr-at-reads.Asked,
   instr-at-reads.Learnt,
@@ -872,7 +872,7 @@ interp-region-examine-at-requires : (t : ℕ) → interp-region-lts.Need-examine
 ) (interp-region-at t) interp-region.Post interp-region-Inv-loop interp-region-μ-loop
 interp-region-examine-at-requires t c κs = ((c .before .before .before .before .before .before .loop .inv) .ready .placed, (Cycle.inside (c .before .before .before .before .before .before .before .before .before .before .args .t .now) (c .before .before .before .before .before .before .loop .heights) (c .before .before .before .before .before .before .loop .blinds) (c .before .before .before .before .before .before .before .before .before .before .args .x) (c .before .before .before .before .before .before .loop .ip) (c .before .before .before .before .before .before .before .before .before .before .args .end) (c .before .before .before .before .before .before .before .before .before .before .args .floor) _ _ ((c .before .before .before .before .before .before .loop .inv) .ready) (c .before .before .before .before .before .loop-test .taken), c .before .before .before .before .before .before .before .before .before .before .pre .1 .floor-low, (c .before .before .before .before .before .before .loop .inv) .ready .height-low))
 
--- src/lib.rt:455:16
+-- src/lib.rt:509:16
 interp-region-passed-requires : (t : ℕ) → interp-region-lts.Need-passed-requires (
   instr-at-reads.Asked,
   instr-at-reads.Learnt,
@@ -887,7 +887,7 @@ interp-region-passed-requires : (t : ℕ) → interp-region-lts.Need-passed-requ
 ) (interp-region-at t) interp-region.Post interp-region-Inv-loop interp-region-μ-loop
 interp-region-passed-requires t c κs = search needs
 
--- src/lib.rt:457:17
+-- src/lib.rt:510:17
 interp-region-same-length : (t : ℕ) → interp-region-lts.Need-same-length (
   instr-at-reads.Asked,
   instr-at-reads.Learnt,
@@ -902,7 +902,7 @@ interp-region-same-length : (t : ℕ) → interp-region-lts.Need-same-length (
 ) (interp-region-at t) interp-region.Post interp-region-Inv-loop interp-region-μ-loop
 interp-region-same-length t c = search needs
 
--- src/lib.rt:457:17
+-- src/lib.rt:510:17
 interp-region-same-length-2 : (t : ℕ) → interp-region-lts.Need-same-length-2 (
   instr-at-reads.Asked,
   instr-at-reads.Learnt,
@@ -917,7 +917,7 @@ interp-region-same-length-2 : (t : ℕ) → interp-region-lts.Need-same-length-2
 ) (interp-region-at t) interp-region.Post interp-region-Inv-loop interp-region-μ-loop
 interp-region-same-length-2 t c = search needs
 
--- src/lib.rt:457:17
+-- src/lib.rt:510:17
 interp-region-returns : (t : ℕ) → interp-region-lts.Need-returns (
   instr-at-reads.Asked,
   instr-at-reads.Learnt,
@@ -930,9 +930,9 @@ interp-region-returns : (t : ℕ) → interp-region-lts.Need-returns (
   block-at-below t,
   block-at.Post,
 ) (interp-region-at t) interp-region.Post interp-region-Inv-loop interp-region-μ-loop
-interp-region-returns t c = (Cycle.walking-refused (c .before .before .before .before .before .before .before .before .before .before .before .before .before .before .before .before .before .args .t .now) (c .before .before .before .before .before .before .before .before .before .before .before .before .before .before .before .before .before .args .heights .now) (c .before .before .before .before .before .before .before .before .before .before .before .before .before .before .before .before .before .args .blinds .now) (c .before .before .before .before .before .before .before .before .before .before .before .before .before .before .before .before .before .args .x) (c .before .before .before .before .before .before .before .before .before .before .before .before .before .before .before .before .before .args .start) (c .before .before .before .before .before .before .before .before .before .before .before .before .before .before .before .before .before .args .end) (c .before .before .before .before .before .before .before .before .before .before .before .before .before .before .before .before .before .args .floor) (c .before .before .before .before .before .before .before .before .before .before .before .before .before .before .before .before .before .args .s0) (c .before .before .before .before .before .before .before .before .before .before .before .before .before .before .before .before .before .args .b0) (c .before .before .before .before .before .before .before .before .before .before .before .before .before .loop .heights) (c .before .before .before .before .before .before .before .before .before .before .before .before .before .loop .blinds) (c .before .before .before .before .before .before .before .before .before .before .before .before .before .loop .ip) (c .before .before .before .before .before .before .before .before .before .before .before .before .before .loop .s) (c .before .before .before .before .before .before .before .before .before .before .before .before .before .loop .b) (c .before .before .before .before .before .before .before .before .before .before .before .before .before .loop .inv) (c .before .before .before .before .before .before .before .before .before .before .before .before .loop-test .taken) (c .before .before .before .before .before .before .before .before .before .before .before .instr-at .result .code) (c .before .before .before .before .before .before .before .before .before .before .before .instr-at .result .a) (Codes.leads-here (c .before .before .before .before .before .before .before .before .before .before .before .before .before .before .before .before .before .args .t .now) (c .before .before .before .before .before .before .before .before .before .before .before .before .before .before .before .before .before .args .x .chunk) (c .before .before .before .before .before .before .before .before .before .before .before .before .before .before .before .before .before .args .x .base) (c .before .before .before .before .before .before .before .before .before .before .before .before .before .before .before .before .before .args .x .length) (c .before .before .before .before .before .before .before .before .before .before .before .before .before .loop .ip) (c .before .before .before .before .before .before .before .before .before .before .before .before .before .before .before .before .before .pre .1 .placed .of .base) (c .before .before .before .before .before .before .before .before .before .before .before .before .before .before .before .before .before .pre .1 .placed .of .length) (c .before .before .before .before .before .before .before .before .before .before .before .instr-at .result) (c .before .before .before .before .before .before .before .before .before .before .before .instr-at .ensures)) (sym (c .before .before .before .before .before .before .before .before .before .before .is-straight .ensures) ∙ c .before .before .before .before .before .before .before .before .before .if1 .taken) (c .before .before .before .before .before .before .examine-at .result) (c .before .before .before .before .before .before .examine-at .ensures .0) (sym (c .before .passed .ensures) ∙ c .if2 .left) _ _ refl, ((c .before .before .before .before .before .before .before .before .before .before .before .before .before .loop .inv) .ready .height-low, (c .before .before .before .before .before .before .before .before .before .before .before .before .before .loop .inv) .ready .breaks-low))
+interp-region-returns t c = (Cycle.walking-refused (c .before .before .before .before .before .before .before .before .before .before .before .before .before .before .before .before .before .args .t .now) (c .before .before .before .before .before .before .before .before .before .before .before .before .before .before .before .before .before .args .heights .now) (c .before .before .before .before .before .before .before .before .before .before .before .before .before .before .before .before .before .args .blinds .now) (c .before .before .before .before .before .before .before .before .before .before .before .before .before .before .before .before .before .args .x) (c .before .before .before .before .before .before .before .before .before .before .before .before .before .before .before .before .before .args .start) (c .before .before .before .before .before .before .before .before .before .before .before .before .before .before .before .before .before .args .end) (c .before .before .before .before .before .before .before .before .before .before .before .before .before .before .before .before .before .args .floor) (c .before .before .before .before .before .before .before .before .before .before .before .before .before .before .before .before .before .args .s0) (c .before .before .before .before .before .before .before .before .before .before .before .before .before .before .before .before .before .args .b0) (c .before .before .before .before .before .before .before .before .before .before .before .before .before .loop .heights) (c .before .before .before .before .before .before .before .before .before .before .before .before .before .loop .blinds) (c .before .before .before .before .before .before .before .before .before .before .before .before .before .loop .ip) (c .before .before .before .before .before .before .before .before .before .before .before .before .before .loop .s) (c .before .before .before .before .before .before .before .before .before .before .before .before .before .loop .b) (c .before .before .before .before .before .before .before .before .before .before .before .before .before .loop .inv) (c .before .before .before .before .before .before .before .before .before .before .before .before .loop-test .taken) (c .before .before .before .before .before .before .before .before .before .before .before .instr-at .result .code) (c .before .before .before .before .before .before .before .before .before .before .before .instr-at .result .a) (Codes.leads-here (c .before .before .before .before .before .before .before .before .before .before .before .before .before .before .before .before .before .args .t .now) (c .before .before .before .before .before .before .before .before .before .before .before .before .before .before .before .before .before .args .x .chunk) (c .before .before .before .before .before .before .before .before .before .before .before .before .before .before .before .before .before .args .x .first) (c .before .before .before .before .before .before .before .before .before .before .before .before .before .before .before .before .before .args .x .count) (c .before .before .before .before .before .before .before .before .before .before .before .before .before .loop .ip) (c .before .before .before .before .before .before .before .before .before .before .before .before .before .before .before .before .before .pre .1 .placed .of .first) (c .before .before .before .before .before .before .before .before .before .before .before .before .before .before .before .before .before .pre .1 .placed .of .count) (c .before .before .before .before .before .before .before .before .before .before .before .instr-at .result) (c .before .before .before .before .before .before .before .before .before .before .before .instr-at .ensures)) (sym (c .before .before .before .before .before .before .before .before .before .before .is-straight .ensures) ∙ c .before .before .before .before .before .before .before .before .before .if1 .taken) (c .before .before .before .before .before .before .examine-at .result) (c .before .before .before .before .before .before .examine-at .ensures .0) (sym (c .before .passed .ensures) ∙ c .if2 .left) _ _ refl, ((c .before .before .before .before .before .before .before .before .before .before .before .before .before .loop .inv) .ready .height-low, (c .before .before .before .before .before .before .before .before .before .before .before .before .before .loop .inv) .ready .breaks-low))
 
--- src/lib.rt:464:13
+-- src/lib.rt:517:13
 interp-region-add-ip : (t : ℕ) → interp-region-lts.Need-add-ip (
   instr-at-reads.Asked,
   instr-at-reads.Learnt,
@@ -947,7 +947,7 @@ interp-region-add-ip : (t : ℕ) → interp-region-lts.Need-add-ip (
 ) (interp-region-at t) interp-region.Post interp-region-Inv-loop interp-region-μ-loop
 interp-region-add-ip t c = omega (arith, (c .before .before .before .before .before .before .before .before .before .before .before .before .before .loop-test .taken), c .before .before .before .before .before .before .before .before .before .before .before .before .before .before .before .before .before .before .fits)
 
--- src/lib.rt:448:5
+-- src/lib.rt:502:5
 interp-region-loop-less : (t : ℕ) → interp-region-lts.Need-loop-less (
   instr-at-reads.Asked,
   instr-at-reads.Learnt,
@@ -962,7 +962,7 @@ interp-region-loop-less : (t : ℕ) → interp-region-lts.Need-loop-less (
 ) (interp-region-at t) interp-region.Post interp-region-Inv-loop interp-region-μ-loop
 interp-region-loop-less t c = omega (arith, (c .before .before .before .before .before .before .before .before .before .before .before .before .before .loop-test .taken))
 
--- src/lib.rt:448:5
+-- src/lib.rt:502:5
 interp-region-loop-again : (t : ℕ) → interp-region-lts.Need-loop-again (
   instr-at-reads.Asked,
   instr-at-reads.Learnt,
@@ -975,9 +975,9 @@ interp-region-loop-again : (t : ℕ) → interp-region-lts.Need-loop-again (
   block-at-below t,
   block-at.Post,
 ) (interp-region-at t) interp-region.Post interp-region-Inv-loop interp-region-μ-loop
-interp-region-loop-again t c = Cycle.walking-on (c .before .before .before .before .before .before .before .before .before .before .before .before .before .before .before .before .before .before .args .t .now) (c .before .before .before .before .before .before .before .before .before .before .before .before .before .before .before .before .before .before .args .heights .now) (c .before .before .before .before .before .before .before .before .before .before .before .before .before .before .before .before .before .before .args .blinds .now) (c .before .before .before .before .before .before .before .before .before .before .before .before .before .before .before .before .before .before .args .x) (c .before .before .before .before .before .before .before .before .before .before .before .before .before .before .before .before .before .before .args .start) (c .before .before .before .before .before .before .before .before .before .before .before .before .before .before .before .before .before .before .args .end) (c .before .before .before .before .before .before .before .before .before .before .before .before .before .before .before .before .before .before .args .floor) (c .before .before .before .before .before .before .before .before .before .before .before .before .before .before .before .before .before .before .args .s0) (c .before .before .before .before .before .before .before .before .before .before .before .before .before .before .before .before .before .before .args .b0) (c .before .before .before .before .before .before .before .before .before .before .before .before .before .before .loop .heights) (c .before .before .before .before .before .before .before .before .before .before .before .before .before .before .loop .blinds) (c .before .before .before .before .before .before .before .before .before .before .before .before .before .before .loop .ip) (c .before .before .before .before .before .before .before .before .before .before .before .before .before .before .loop .s) (c .before .before .before .before .before .before .before .before .before .before .before .before .before .before .loop .b) (c .before .before .before .before .before .before .before .before .before .before .before .before .before .before .loop .inv) (c .before .before .before .before .before .before .before .before .before .before .before .before .before .loop-test .taken) (c .before .before .before .before .before .before .before .before .before .before .before .before .instr-at .result .code) (c .before .before .before .before .before .before .before .before .before .before .before .before .instr-at .result .a) (Codes.leads-here (c .before .before .before .before .before .before .before .before .before .before .before .before .before .before .before .before .before .before .args .t .now) (c .before .before .before .before .before .before .before .before .before .before .before .before .before .before .before .before .before .before .args .x .chunk) (c .before .before .before .before .before .before .before .before .before .before .before .before .before .before .before .before .before .before .args .x .base) (c .before .before .before .before .before .before .before .before .before .before .before .before .before .before .before .before .before .before .args .x .length) (c .before .before .before .before .before .before .before .before .before .before .before .before .before .before .loop .ip) (c .before .before .before .before .before .before .before .before .before .before .before .before .before .before .before .before .before .before .pre .1 .placed .of .base) (c .before .before .before .before .before .before .before .before .before .before .before .before .before .before .before .before .before .before .pre .1 .placed .of .length) (c .before .before .before .before .before .before .before .before .before .before .before .before .instr-at .result) (c .before .before .before .before .before .before .before .before .before .before .before .before .instr-at .ensures)) (sym (c .before .before .before .before .before .before .before .before .before .before .before .is-straight .ensures) ∙ c .before .before .before .before .before .before .before .before .before .before .if1 .taken) (c .before .before .before .before .before .before .before .examine-at .result) (c .before .before .before .before .before .before .before .examine-at .ensures .0) (sym (c .before .before .passed .ensures) ∙ c .before .if2 .taken) _ _ (c .before .before .before .before .before .before .before .examine-at .kept .1 .0) (c .before .before .before .before .before .before .before .examine-at .kept .1 .1 .0) (c .before .before .before .before .before .before .before .examine-at .ensures .1 (sym (c .before .before .passed .ensures) ∙ c .before .if2 .taken))
+interp-region-loop-again t c = Cycle.walking-on (c .before .before .before .before .before .before .before .before .before .before .before .before .before .before .before .before .before .before .args .t .now) (c .before .before .before .before .before .before .before .before .before .before .before .before .before .before .before .before .before .before .args .heights .now) (c .before .before .before .before .before .before .before .before .before .before .before .before .before .before .before .before .before .before .args .blinds .now) (c .before .before .before .before .before .before .before .before .before .before .before .before .before .before .before .before .before .before .args .x) (c .before .before .before .before .before .before .before .before .before .before .before .before .before .before .before .before .before .before .args .start) (c .before .before .before .before .before .before .before .before .before .before .before .before .before .before .before .before .before .before .args .end) (c .before .before .before .before .before .before .before .before .before .before .before .before .before .before .before .before .before .before .args .floor) (c .before .before .before .before .before .before .before .before .before .before .before .before .before .before .before .before .before .before .args .s0) (c .before .before .before .before .before .before .before .before .before .before .before .before .before .before .before .before .before .before .args .b0) (c .before .before .before .before .before .before .before .before .before .before .before .before .before .before .loop .heights) (c .before .before .before .before .before .before .before .before .before .before .before .before .before .before .loop .blinds) (c .before .before .before .before .before .before .before .before .before .before .before .before .before .before .loop .ip) (c .before .before .before .before .before .before .before .before .before .before .before .before .before .before .loop .s) (c .before .before .before .before .before .before .before .before .before .before .before .before .before .before .loop .b) (c .before .before .before .before .before .before .before .before .before .before .before .before .before .before .loop .inv) (c .before .before .before .before .before .before .before .before .before .before .before .before .before .loop-test .taken) (c .before .before .before .before .before .before .before .before .before .before .before .before .instr-at .result .code) (c .before .before .before .before .before .before .before .before .before .before .before .before .instr-at .result .a) (Codes.leads-here (c .before .before .before .before .before .before .before .before .before .before .before .before .before .before .before .before .before .before .args .t .now) (c .before .before .before .before .before .before .before .before .before .before .before .before .before .before .before .before .before .before .args .x .chunk) (c .before .before .before .before .before .before .before .before .before .before .before .before .before .before .before .before .before .before .args .x .first) (c .before .before .before .before .before .before .before .before .before .before .before .before .before .before .before .before .before .before .args .x .count) (c .before .before .before .before .before .before .before .before .before .before .before .before .before .before .loop .ip) (c .before .before .before .before .before .before .before .before .before .before .before .before .before .before .before .before .before .before .pre .1 .placed .of .first) (c .before .before .before .before .before .before .before .before .before .before .before .before .before .before .before .before .before .before .pre .1 .placed .of .count) (c .before .before .before .before .before .before .before .before .before .before .before .before .instr-at .result) (c .before .before .before .before .before .before .before .before .before .before .before .before .instr-at .ensures)) (sym (c .before .before .before .before .before .before .before .before .before .before .before .is-straight .ensures) ∙ c .before .before .before .before .before .before .before .before .before .before .if1 .taken) (c .before .before .before .before .before .before .before .examine-at .result) (c .before .before .before .before .before .before .before .examine-at .ensures .0) (sym (c .before .before .passed .ensures) ∙ c .before .if2 .taken) _ _ (c .before .before .before .before .before .before .before .examine-at .kept .1 .0) (c .before .before .before .before .before .before .before .examine-at .kept .1 .1 .0) (c .before .before .before .before .before .before .before .examine-at .ensures .1)
 
--- src/lib.rt:466:59
+-- src/lib.rt:525:17
 interp-region-cast-block-at : (t : ℕ) → interp-region-lts.Need-cast-block-at (
   instr-at-reads.Asked,
   instr-at-reads.Learnt,
@@ -992,7 +992,7 @@ interp-region-cast-block-at : (t : ℕ) → interp-region-lts.Need-cast-block-at
 ) (interp-region-at t) interp-region.Post interp-region-Inv-loop interp-region-μ-loop
 interp-region-cast-block-at t c = search needs
 
--- src/lib.rt:466:17
+-- src/lib.rt:519:17
 interp-region-block-at-requires : (t : ℕ) → interp-region-lts.Need-block-at-requires (
   instr-at-reads.Asked,
   instr-at-reads.Learnt,
@@ -1005,7 +1005,7 @@ interp-region-block-at-requires : (t : ℕ) → interp-region-lts.Need-block-at-
   block-at-below t,
   block-at.Post,
 ) (interp-region-at t) interp-region.Post interp-region-Inv-loop interp-region-μ-loop
-interp-region-block-at-requires t c κs = (omega (arith, c .before .before .before .before .before .before .before .before .before .before .pre .0, (c .before .before .before .before .before .loop-test .taken), (c .before .before .before .before .before .before .loop .inv) .onward), ((c .before .before .before .before .before .before .loop .inv) .ready, ((c .before .before .before .before .before .loop-test .taken), c .before .before .before .before .instr-at .ensures .code-low, (sym (c .before .before .before .is-straight .ensures) ∙ c .before .before .if1 .left), (Codes.leads-here (c .before .before .before .before .before .before .before .before .before .before .args .t .now) (c .before .before .before .before .before .before .before .before .before .before .args .x .chunk) (c .before .before .before .before .before .before .before .before .before .before .args .x .base) (c .before .before .before .before .before .before .before .before .before .before .args .x .length) (c .before .before .before .before .before .before .loop .ip) (c .before .before .before .before .before .before .before .before .before .before .pre .1 .placed .of .base) (c .before .before .before .before .before .before .before .before .before .before .pre .1 .placed .of .length) (c .before .before .before .before .instr-at .result) (c .before .before .before .before .instr-at .ensures)))))
+interp-region-block-at-requires t c κs = (omega (arith, c .before .before .before .before .before .before .before .before .before .before .pre .0, (c .before .before .before .before .before .loop-test .taken), (c .before .before .before .before .before .before .loop .inv) .onward), ((c .before .before .before .before .before .before .loop .inv) .ready, ((c .before .before .before .before .before .loop-test .taken), c .before .before .before .before .instr-at .ensures .code-low, (sym (c .before .before .before .is-straight .ensures) ∙ c .before .before .if1 .left), (Codes.leads-here (c .before .before .before .before .before .before .before .before .before .before .args .t .now) (c .before .before .before .before .before .before .before .before .before .before .args .x .chunk) (c .before .before .before .before .before .before .before .before .before .before .args .x .first) (c .before .before .before .before .before .before .before .before .before .before .args .x .count) (c .before .before .before .before .before .before .loop .ip) (c .before .before .before .before .before .before .before .before .before .before .pre .1 .placed .of .first) (c .before .before .before .before .before .before .before .before .before .before .pre .1 .placed .of .count) (c .before .before .before .before .instr-at .result) (c .before .before .before .before .instr-at .ensures)))))
 
 interp-region-enum-told : (t : ℕ) → interp-region-lts.Need-enum-told (
   instr-at-reads.Asked,
@@ -1021,7 +1021,7 @@ interp-region-enum-told : (t : ℕ) → interp-region-lts.Need-enum-told (
 ) (interp-region-at t) interp-region.Post interp-region-Inv-loop interp-region-μ-loop
 interp-region-enum-told t c = search needs
 
--- src/lib.rt:472:21
+-- src/lib.rt:537:21
 interp-region-enum-told-2 : (t : ℕ) → interp-region-lts.Need-enum-told-2 (
   instr-at-reads.Asked,
   instr-at-reads.Learnt,
@@ -1036,7 +1036,7 @@ interp-region-enum-told-2 : (t : ℕ) → interp-region-lts.Need-enum-told-2 (
 ) (interp-region-at t) interp-region.Post interp-region-Inv-loop interp-region-μ-loop
 interp-region-enum-told-2 t c = search needs
 
--- src/lib.rt:472:21
+-- src/lib.rt:537:21
 interp-region-same-length-3 : (t : ℕ) → interp-region-lts.Need-same-length-3 (
   instr-at-reads.Asked,
   instr-at-reads.Learnt,
@@ -1051,7 +1051,7 @@ interp-region-same-length-3 : (t : ℕ) → interp-region-lts.Need-same-length-3
 ) (interp-region-at t) interp-region.Post interp-region-Inv-loop interp-region-μ-loop
 interp-region-same-length-3 t c = search needs
 
--- src/lib.rt:472:21
+-- src/lib.rt:537:21
 interp-region-same-length-4 : (t : ℕ) → interp-region-lts.Need-same-length-4 (
   instr-at-reads.Asked,
   instr-at-reads.Learnt,
@@ -1066,7 +1066,7 @@ interp-region-same-length-4 : (t : ℕ) → interp-region-lts.Need-same-length-4
 ) (interp-region-at t) interp-region.Post interp-region-Inv-loop interp-region-μ-loop
 interp-region-same-length-4 t c = search needs
 
--- src/lib.rt:472:21
+-- src/lib.rt:537:21
 interp-region-returns-2 : (t : ℕ) → interp-region-lts.Need-returns-2 (
   instr-at-reads.Asked,
   instr-at-reads.Learnt,
@@ -1079,9 +1079,9 @@ interp-region-returns-2 : (t : ℕ) → interp-region-lts.Need-returns-2 (
   block-at-below t,
   block-at.Post,
 ) (interp-region-at t) interp-region.Post interp-region-Inv-loop interp-region-μ-loop
-interp-region-returns-2 t c = (Cycle.walking-ended (c .before .before .before .before .before .before .before .before .before .before .before .before .before .before .before .before .before .before .args .t .now) (c .before .before .before .before .before .before .before .before .before .before .before .before .before .before .before .before .before .before .args .heights .now) (c .before .before .before .before .before .before .before .before .before .before .before .before .before .before .before .before .before .before .args .blinds .now) (c .before .before .before .before .before .before .before .before .before .before .before .before .before .before .before .before .before .before .args .x) (c .before .before .before .before .before .before .before .before .before .before .before .before .before .before .before .before .before .before .args .start) (c .before .before .before .before .before .before .before .before .before .before .before .before .before .before .before .before .before .before .args .end) (c .before .before .before .before .before .before .before .before .before .before .before .before .before .before .before .before .before .before .args .floor) (c .before .before .before .before .before .before .before .before .before .before .before .before .before .before .before .before .before .before .args .s0) (c .before .before .before .before .before .before .before .before .before .before .before .before .before .before .before .before .before .before .args .b0) (c .before .before .before .before .before .before .before .before .before .before .before .before .before .before .loop .heights) (c .before .before .before .before .before .before .before .before .before .before .before .before .before .before .loop .blinds) (c .before .before .before .before .before .before .before .before .before .before .before .before .before .before .loop .ip) (c .before .before .before .before .before .before .before .before .before .before .before .before .before .before .loop .s) (c .before .before .before .before .before .before .before .before .before .before .before .before .before .before .loop .b) (c .before .before .before .before .before .before .before .before .before .before .before .before .before .before .loop .inv) (c .before .before .before .before .before .before .before .before .before .before .before .before .before .loop-test .taken) (c .before .before .before .before .before .before .before .before .before .before .before .before .instr-at .result .code) (c .before .before .before .before .before .before .before .before .before .before .before .before .instr-at .result .a) (Codes.leads-here (c .before .before .before .before .before .before .before .before .before .before .before .before .before .before .before .before .before .before .args .t .now) (c .before .before .before .before .before .before .before .before .before .before .before .before .before .before .before .before .before .before .args .x .chunk) (c .before .before .before .before .before .before .before .before .before .before .before .before .before .before .before .before .before .before .args .x .base) (c .before .before .before .before .before .before .before .before .before .before .before .before .before .before .before .before .before .before .args .x .length) (c .before .before .before .before .before .before .before .before .before .before .before .before .before .before .loop .ip) (c .before .before .before .before .before .before .before .before .before .before .before .before .before .before .before .before .before .before .pre .1 .placed .of .base) (c .before .before .before .before .before .before .before .before .before .before .before .before .before .before .before .before .before .before .pre .1 .placed .of .length) (c .before .before .before .before .before .before .before .before .before .before .before .before .instr-at .result) (c .before .before .before .before .before .before .before .before .before .before .before .before .instr-at .ensures)) (c .before .before .before .before .before .before .before .block-at .result) _ _ (c .before .before .before .before .before .before .before .block-at .ensures .0) (c .enum-told2 .given .1), c .before .before .before .before .before .before .before .block-at .ensures .1 .2)
+interp-region-returns-2 t c = (Cycle.walking-ended (c .before .before .before .before .before .before .before .before .before .before .before .before .before .before .before .before .before .before .args .t .now) (c .before .before .before .before .before .before .before .before .before .before .before .before .before .before .before .before .before .before .args .heights .now) (c .before .before .before .before .before .before .before .before .before .before .before .before .before .before .before .before .before .before .args .blinds .now) (c .before .before .before .before .before .before .before .before .before .before .before .before .before .before .before .before .before .before .args .x) (c .before .before .before .before .before .before .before .before .before .before .before .before .before .before .before .before .before .before .args .start) (c .before .before .before .before .before .before .before .before .before .before .before .before .before .before .before .before .before .before .args .end) (c .before .before .before .before .before .before .before .before .before .before .before .before .before .before .before .before .before .before .args .floor) (c .before .before .before .before .before .before .before .before .before .before .before .before .before .before .before .before .before .before .args .s0) (c .before .before .before .before .before .before .before .before .before .before .before .before .before .before .before .before .before .before .args .b0) (c .before .before .before .before .before .before .before .before .before .before .before .before .before .before .loop .heights) (c .before .before .before .before .before .before .before .before .before .before .before .before .before .before .loop .blinds) (c .before .before .before .before .before .before .before .before .before .before .before .before .before .before .loop .ip) (c .before .before .before .before .before .before .before .before .before .before .before .before .before .before .loop .s) (c .before .before .before .before .before .before .before .before .before .before .before .before .before .before .loop .b) (c .before .before .before .before .before .before .before .before .before .before .before .before .before .before .loop .inv) (c .before .before .before .before .before .before .before .before .before .before .before .before .before .loop-test .taken) (c .before .before .before .before .before .before .before .before .before .before .before .before .instr-at .result .code) (c .before .before .before .before .before .before .before .before .before .before .before .before .instr-at .result .a) (Codes.leads-here (c .before .before .before .before .before .before .before .before .before .before .before .before .before .before .before .before .before .before .args .t .now) (c .before .before .before .before .before .before .before .before .before .before .before .before .before .before .before .before .before .before .args .x .chunk) (c .before .before .before .before .before .before .before .before .before .before .before .before .before .before .before .before .before .before .args .x .first) (c .before .before .before .before .before .before .before .before .before .before .before .before .before .before .before .before .before .before .args .x .count) (c .before .before .before .before .before .before .before .before .before .before .before .before .before .before .loop .ip) (c .before .before .before .before .before .before .before .before .before .before .before .before .before .before .before .before .before .before .pre .1 .placed .of .first) (c .before .before .before .before .before .before .before .before .before .before .before .before .before .before .before .before .before .before .pre .1 .placed .of .count) (c .before .before .before .before .before .before .before .before .before .before .before .before .instr-at .result) (c .before .before .before .before .before .before .before .before .before .before .before .before .instr-at .ensures)) (c .before .before .before .before .before .before .before .block-at .result) _ _ (c .before .before .before .before .before .before .before .block-at .ensures .0) (c .enum-told2 .given .1), c .before .before .before .before .before .before .before .block-at .ensures .1 .2)
 
--- src/lib.rt:475:21
+-- src/lib.rt:540:21
 interp-region-enum-told-3 : (t : ℕ) → interp-region-lts.Need-enum-told-3 (
   instr-at-reads.Asked,
   instr-at-reads.Learnt,
@@ -1096,7 +1096,7 @@ interp-region-enum-told-3 : (t : ℕ) → interp-region-lts.Need-enum-told-3 (
 ) (interp-region-at t) interp-region.Post interp-region-Inv-loop interp-region-μ-loop
 interp-region-enum-told-3 t c = search needs
 
--- src/lib.rt:475:21
+-- src/lib.rt:540:21
 interp-region-same-length-5 : (t : ℕ) → interp-region-lts.Need-same-length-5 (
   instr-at-reads.Asked,
   instr-at-reads.Learnt,
@@ -1111,7 +1111,7 @@ interp-region-same-length-5 : (t : ℕ) → interp-region-lts.Need-same-length-5
 ) (interp-region-at t) interp-region.Post interp-region-Inv-loop interp-region-μ-loop
 interp-region-same-length-5 t c = search needs
 
--- src/lib.rt:475:21
+-- src/lib.rt:540:21
 interp-region-same-length-6 : (t : ℕ) → interp-region-lts.Need-same-length-6 (
   instr-at-reads.Asked,
   instr-at-reads.Learnt,
@@ -1126,7 +1126,7 @@ interp-region-same-length-6 : (t : ℕ) → interp-region-lts.Need-same-length-6
 ) (interp-region-at t) interp-region.Post interp-region-Inv-loop interp-region-μ-loop
 interp-region-same-length-6 t c = search needs
 
--- src/lib.rt:475:21
+-- src/lib.rt:540:21
 interp-region-returns-3 : (t : ℕ) → interp-region-lts.Need-returns-3 (
   instr-at-reads.Asked,
   instr-at-reads.Learnt,
@@ -1139,9 +1139,9 @@ interp-region-returns-3 : (t : ℕ) → interp-region-lts.Need-returns-3 (
   block-at-below t,
   block-at.Post,
 ) (interp-region-at t) interp-region.Post interp-region-Inv-loop interp-region-μ-loop
-interp-region-returns-3 t c = (Cycle.walking-stopped (c .before .before .before .before .before .before .before .before .before .before .before .before .before .before .before .before .before .before .args .t .now) (c .before .before .before .before .before .before .before .before .before .before .before .before .before .before .before .before .before .before .args .heights .now) (c .before .before .before .before .before .before .before .before .before .before .before .before .before .before .before .before .before .before .args .blinds .now) (c .before .before .before .before .before .before .before .before .before .before .before .before .before .before .before .before .before .before .args .x) (c .before .before .before .before .before .before .before .before .before .before .before .before .before .before .before .before .before .before .args .start) (c .before .before .before .before .before .before .before .before .before .before .before .before .before .before .before .before .before .before .args .end) (c .before .before .before .before .before .before .before .before .before .before .before .before .before .before .before .before .before .before .args .floor) (c .before .before .before .before .before .before .before .before .before .before .before .before .before .before .before .before .before .before .args .s0) (c .before .before .before .before .before .before .before .before .before .before .before .before .before .before .before .before .before .before .args .b0) (c .before .before .before .before .before .before .before .before .before .before .before .before .before .before .loop .heights) (c .before .before .before .before .before .before .before .before .before .before .before .before .before .before .loop .blinds) (c .before .before .before .before .before .before .before .before .before .before .before .before .before .before .loop .ip) (c .before .before .before .before .before .before .before .before .before .before .before .before .before .before .loop .s) (c .before .before .before .before .before .before .before .before .before .before .before .before .before .before .loop .b) (c .before .before .before .before .before .before .before .before .before .before .before .before .before .before .loop .inv) (c .before .before .before .before .before .before .before .before .before .before .before .before .before .loop-test .taken) (c .before .before .before .before .before .before .before .before .before .before .before .before .instr-at .result .code) (c .before .before .before .before .before .before .before .before .before .before .before .before .instr-at .result .a) (Codes.leads-here (c .before .before .before .before .before .before .before .before .before .before .before .before .before .before .before .before .before .before .args .t .now) (c .before .before .before .before .before .before .before .before .before .before .before .before .before .before .before .before .before .before .args .x .chunk) (c .before .before .before .before .before .before .before .before .before .before .before .before .before .before .before .before .before .before .args .x .base) (c .before .before .before .before .before .before .before .before .before .before .before .before .before .before .before .before .before .before .args .x .length) (c .before .before .before .before .before .before .before .before .before .before .before .before .before .before .loop .ip) (c .before .before .before .before .before .before .before .before .before .before .before .before .before .before .before .before .before .before .pre .1 .placed .of .base) (c .before .before .before .before .before .before .before .before .before .before .before .before .before .before .before .before .before .before .pre .1 .placed .of .length) (c .before .before .before .before .before .before .before .before .before .before .before .before .instr-at .result) (c .before .before .before .before .before .before .before .before .before .before .before .before .instr-at .ensures)) (c .before .before .before .before .before .before .before .block-at .result) _ _ (c .before .before .before .before .before .before .before .block-at .ensures .0) (c .enum-told3 .given .1), c .before .before .before .before .before .before .before .block-at .ensures .1 .2)
+interp-region-returns-3 t c = (Cycle.walking-stopped (c .before .before .before .before .before .before .before .before .before .before .before .before .before .before .before .before .before .before .args .t .now) (c .before .before .before .before .before .before .before .before .before .before .before .before .before .before .before .before .before .before .args .heights .now) (c .before .before .before .before .before .before .before .before .before .before .before .before .before .before .before .before .before .before .args .blinds .now) (c .before .before .before .before .before .before .before .before .before .before .before .before .before .before .before .before .before .before .args .x) (c .before .before .before .before .before .before .before .before .before .before .before .before .before .before .before .before .before .before .args .start) (c .before .before .before .before .before .before .before .before .before .before .before .before .before .before .before .before .before .before .args .end) (c .before .before .before .before .before .before .before .before .before .before .before .before .before .before .before .before .before .before .args .floor) (c .before .before .before .before .before .before .before .before .before .before .before .before .before .before .before .before .before .before .args .s0) (c .before .before .before .before .before .before .before .before .before .before .before .before .before .before .before .before .before .before .args .b0) (c .before .before .before .before .before .before .before .before .before .before .before .before .before .before .loop .heights) (c .before .before .before .before .before .before .before .before .before .before .before .before .before .before .loop .blinds) (c .before .before .before .before .before .before .before .before .before .before .before .before .before .before .loop .ip) (c .before .before .before .before .before .before .before .before .before .before .before .before .before .before .loop .s) (c .before .before .before .before .before .before .before .before .before .before .before .before .before .before .loop .b) (c .before .before .before .before .before .before .before .before .before .before .before .before .before .before .loop .inv) (c .before .before .before .before .before .before .before .before .before .before .before .before .before .loop-test .taken) (c .before .before .before .before .before .before .before .before .before .before .before .before .instr-at .result .code) (c .before .before .before .before .before .before .before .before .before .before .before .before .instr-at .result .a) (Codes.leads-here (c .before .before .before .before .before .before .before .before .before .before .before .before .before .before .before .before .before .before .args .t .now) (c .before .before .before .before .before .before .before .before .before .before .before .before .before .before .before .before .before .before .args .x .chunk) (c .before .before .before .before .before .before .before .before .before .before .before .before .before .before .before .before .before .before .args .x .first) (c .before .before .before .before .before .before .before .before .before .before .before .before .before .before .before .before .before .before .args .x .count) (c .before .before .before .before .before .before .before .before .before .before .before .before .before .before .loop .ip) (c .before .before .before .before .before .before .before .before .before .before .before .before .before .before .before .before .before .before .pre .1 .placed .of .first) (c .before .before .before .before .before .before .before .before .before .before .before .before .before .before .before .before .before .before .pre .1 .placed .of .count) (c .before .before .before .before .before .before .before .before .before .before .before .before .instr-at .result) (c .before .before .before .before .before .before .before .before .before .before .before .before .instr-at .ensures)) (c .before .before .before .before .before .before .before .block-at .result) _ _ (c .before .before .before .before .before .before .before .block-at .ensures .0) (c .enum-told3 .given .1), c .before .before .before .before .before .before .before .block-at .ensures .1 .2)
 
--- src/lib.rt:448:5
+-- src/lib.rt:502:5
 interp-region-loop-less-2 : (t : ℕ) → interp-region-lts.Need-loop-less-2 (
   instr-at-reads.Asked,
   instr-at-reads.Learnt,
@@ -1156,7 +1156,7 @@ interp-region-loop-less-2 : (t : ℕ) → interp-region-lts.Need-loop-less-2 (
 ) (interp-region-at t) interp-region.Post interp-region-Inv-loop interp-region-μ-loop
 interp-region-loop-less-2 t c = omega (arith, (c .before .before .before .before .before .before .before .before .before .before .before .before .before .before .before .loop-test .taken), c .before .before .before .before .before .before .before .before .before .block-at .ensures .1 .0)
 
--- src/lib.rt:448:5
+-- src/lib.rt:502:5
 interp-region-loop-again-2 : (t : ℕ) → interp-region-lts.Need-loop-again-2 (
   instr-at-reads.Asked,
   instr-at-reads.Learnt,
@@ -1169,9 +1169,9 @@ interp-region-loop-again-2 : (t : ℕ) → interp-region-lts.Need-loop-again-2 (
   block-at-below t,
   block-at.Post,
 ) (interp-region-at t) interp-region.Post interp-region-Inv-loop interp-region-μ-loop
-interp-region-loop-again-2 t c = Cycle.walking-past (c .before .before .before .before .before .before .before .before .before .before .before .before .before .before .before .before .before .before .before .before .args .t .now) (c .before .before .before .before .before .before .before .before .before .before .before .before .before .before .before .before .before .before .before .before .args .heights .now) (c .before .before .before .before .before .before .before .before .before .before .before .before .before .before .before .before .before .before .before .before .args .blinds .now) (c .before .before .before .before .before .before .before .before .before .before .before .before .before .before .before .before .before .before .before .before .args .x) (c .before .before .before .before .before .before .before .before .before .before .before .before .before .before .before .before .before .before .before .before .args .start) (c .before .before .before .before .before .before .before .before .before .before .before .before .before .before .before .before .before .before .before .before .args .end) (c .before .before .before .before .before .before .before .before .before .before .before .before .before .before .before .before .before .before .before .before .args .floor) (c .before .before .before .before .before .before .before .before .before .before .before .before .before .before .before .before .before .before .before .before .args .s0) (c .before .before .before .before .before .before .before .before .before .before .before .before .before .before .before .before .before .before .before .before .args .b0) (c .before .before .before .before .before .before .before .before .before .before .before .before .before .before .before .before .loop .heights) (c .before .before .before .before .before .before .before .before .before .before .before .before .before .before .before .before .loop .blinds) (c .before .before .before .before .before .before .before .before .before .before .before .before .before .before .before .before .loop .ip) (c .before .before .before .before .before .before .before .before .before .before .before .before .before .before .before .before .loop .s) (c .before .before .before .before .before .before .before .before .before .before .before .before .before .before .before .before .loop .b) (c .before .before .before .before .before .before .before .before .before .before .before .before .before .before .before .before .loop .inv) (c .before .before .before .before .before .before .before .before .before .before .before .before .before .before .before .loop-test .taken) (c .before .before .before .before .before .before .before .before .before .before .before .before .before .before .instr-at .result .code) (c .before .before .before .before .before .before .before .before .before .before .before .before .before .before .instr-at .result .a) (Codes.leads-here (c .before .before .before .before .before .before .before .before .before .before .before .before .before .before .before .before .before .before .before .before .args .t .now) (c .before .before .before .before .before .before .before .before .before .before .before .before .before .before .before .before .before .before .before .before .args .x .chunk) (c .before .before .before .before .before .before .before .before .before .before .before .before .before .before .before .before .before .before .before .before .args .x .base) (c .before .before .before .before .before .before .before .before .before .before .before .before .before .before .before .before .before .before .before .before .args .x .length) (c .before .before .before .before .before .before .before .before .before .before .before .before .before .before .before .before .loop .ip) (c .before .before .before .before .before .before .before .before .before .before .before .before .before .before .before .before .before .before .before .before .pre .1 .placed .of .base) (c .before .before .before .before .before .before .before .before .before .before .before .before .before .before .before .before .before .before .before .before .pre .1 .placed .of .length) (c .before .before .before .before .before .before .before .before .before .before .before .before .before .before .instr-at .result) (c .before .before .before .before .before .before .before .before .before .before .before .before .before .before .instr-at .ensures)) (c .before .before .before .before .before .before .before .before .before .block-at .result) _ _ (c .before .before .before .before .before .before .before .before .before .block-at .ensures .0) (c .before .before .enum-told .given .1) (c .before .before .before .before .before .before .before .before .before .block-at .kept .1 .0) (c .before .before .before .before .before .before .before .before .before .block-at .kept .1 .1 .0) (c .before .before .before .before .before .before .before .before .before .block-at .ensures .1 .0) (c .before .before .before .before .before .before .before .before .before .block-at .ensures .1 .1) (c .before .before .before .before .before .before .before .before .before .block-at .ensures .1 .2 .0) (c .before .before .before .before .before .before .before .before .before .block-at .ensures .1 .2 .1)
+interp-region-loop-again-2 t c = Cycle.walking-past (c .before .before .before .before .before .before .before .before .before .before .before .before .before .before .before .before .before .before .before .before .args .t .now) (c .before .before .before .before .before .before .before .before .before .before .before .before .before .before .before .before .before .before .before .before .args .heights .now) (c .before .before .before .before .before .before .before .before .before .before .before .before .before .before .before .before .before .before .before .before .args .blinds .now) (c .before .before .before .before .before .before .before .before .before .before .before .before .before .before .before .before .before .before .before .before .args .x) (c .before .before .before .before .before .before .before .before .before .before .before .before .before .before .before .before .before .before .before .before .args .start) (c .before .before .before .before .before .before .before .before .before .before .before .before .before .before .before .before .before .before .before .before .args .end) (c .before .before .before .before .before .before .before .before .before .before .before .before .before .before .before .before .before .before .before .before .args .floor) (c .before .before .before .before .before .before .before .before .before .before .before .before .before .before .before .before .before .before .before .before .args .s0) (c .before .before .before .before .before .before .before .before .before .before .before .before .before .before .before .before .before .before .before .before .args .b0) (c .before .before .before .before .before .before .before .before .before .before .before .before .before .before .before .before .loop .heights) (c .before .before .before .before .before .before .before .before .before .before .before .before .before .before .before .before .loop .blinds) (c .before .before .before .before .before .before .before .before .before .before .before .before .before .before .before .before .loop .ip) (c .before .before .before .before .before .before .before .before .before .before .before .before .before .before .before .before .loop .s) (c .before .before .before .before .before .before .before .before .before .before .before .before .before .before .before .before .loop .b) (c .before .before .before .before .before .before .before .before .before .before .before .before .before .before .before .before .loop .inv) (c .before .before .before .before .before .before .before .before .before .before .before .before .before .before .before .loop-test .taken) (c .before .before .before .before .before .before .before .before .before .before .before .before .before .before .instr-at .result .code) (c .before .before .before .before .before .before .before .before .before .before .before .before .before .before .instr-at .result .a) (Codes.leads-here (c .before .before .before .before .before .before .before .before .before .before .before .before .before .before .before .before .before .before .before .before .args .t .now) (c .before .before .before .before .before .before .before .before .before .before .before .before .before .before .before .before .before .before .before .before .args .x .chunk) (c .before .before .before .before .before .before .before .before .before .before .before .before .before .before .before .before .before .before .before .before .args .x .first) (c .before .before .before .before .before .before .before .before .before .before .before .before .before .before .before .before .before .before .before .before .args .x .count) (c .before .before .before .before .before .before .before .before .before .before .before .before .before .before .before .before .loop .ip) (c .before .before .before .before .before .before .before .before .before .before .before .before .before .before .before .before .before .before .before .before .pre .1 .placed .of .first) (c .before .before .before .before .before .before .before .before .before .before .before .before .before .before .before .before .before .before .before .before .pre .1 .placed .of .count) (c .before .before .before .before .before .before .before .before .before .before .before .before .before .before .instr-at .result) (c .before .before .before .before .before .before .before .before .before .before .before .before .before .before .instr-at .ensures)) (c .before .before .before .before .before .before .before .before .before .block-at .result) _ _ (c .before .before .before .before .before .before .before .before .before .block-at .ensures .0) (c .before .before .enum-told .given .1) (c .before .before .before .before .before .before .before .before .before .block-at .kept .1 .0) (c .before .before .before .before .before .before .before .before .before .block-at .kept .1 .1 .0) (c .before .before .before .before .before .before .before .before .before .block-at .ensures .1 .0) (c .before .before .before .before .before .before .before .before .before .block-at .ensures .1 .1) (c .before .before .before .before .before .before .before .before .before .block-at .ensures .1 .2 .0) (c .before .before .before .before .before .before .before .before .before .block-at .ensures .1 .2 .1)
 
--- src/lib.rt:430:1
+-- src/lib.rt:484:1
 interp-region-same-length-7 : (t : ℕ) → interp-region-lts.Need-same-length-7 (
   instr-at-reads.Asked,
   instr-at-reads.Learnt,
@@ -1186,7 +1186,7 @@ interp-region-same-length-7 : (t : ℕ) → interp-region-lts.Need-same-length-7
 ) (interp-region-at t) interp-region.Post interp-region-Inv-loop interp-region-μ-loop
 interp-region-same-length-7 t c = search needs
 
--- src/lib.rt:430:1
+-- src/lib.rt:484:1
 interp-region-same-length-8 : (t : ℕ) → interp-region-lts.Need-same-length-8 (
   instr-at-reads.Asked,
   instr-at-reads.Learnt,
@@ -1201,7 +1201,7 @@ interp-region-same-length-8 : (t : ℕ) → interp-region-lts.Need-same-length-8
 ) (interp-region-at t) interp-region.Post interp-region-Inv-loop interp-region-μ-loop
 interp-region-same-length-8 t c = search needs
 
--- src/lib.rt:430:1
+-- src/lib.rt:484:1
 interp-region-returns-4 : (t : ℕ) → interp-region-lts.Need-returns-4 (
   instr-at-reads.Asked,
   instr-at-reads.Learnt,
@@ -1216,7 +1216,7 @@ interp-region-returns-4 : (t : ℕ) → interp-region-lts.Need-returns-4 (
 ) (interp-region-at t) interp-region.Post interp-region-Inv-loop interp-region-μ-loop
 interp-region-returns-4 t c = (Cycle.walking-end (c .before .before .before .before .before .args .t .now) (c .before .before .before .before .before .args .heights .now) (c .before .before .before .before .before .args .blinds .now) (c .before .before .before .before .before .args .x) (c .before .before .before .before .before .args .start) (c .before .before .before .before .before .args .end) (c .before .before .before .before .before .args .floor) (c .before .before .before .before .before .args .s0) (c .before .before .before .before .before .args .b0) (c .before .loop .heights) (c .before .loop .blinds) (c .before .loop .ip) (c .before .loop .s) (c .before .loop .b) (c .before .loop .inv) (omega (arith, c .loop-test .left)), ((c .before .loop .inv) .ready .height-low, (c .before .loop .inv) .ready .breaks-low))
 
--- src/lib.rt:689:16
+-- src/lib.rt:789:16
 last-pass-add-body : (t : ℕ) → last-pass-lts.Need-add-body (
   invalidate-written-locals-reads.Asked,
   invalidate-written-locals-reads.Learnt,
@@ -1227,7 +1227,7 @@ last-pass-add-body : (t : ℕ) → last-pass-lts.Need-add-body (
 ) (last-pass-at t) last-pass.Post
 last-pass-add-body t c = omega (arith, c .before .before .before .pre .1 .1 .0, c .before .before .before .pre .1 .1 .1, c .before .before .before .fits)
 
--- src/lib.rt:690:16
+-- src/lib.rt:790:16
 last-pass-sub-last : (t : ℕ) → last-pass-lts.Need-sub-last (
   invalidate-written-locals-reads.Asked,
   invalidate-written-locals-reads.Learnt,
@@ -1238,7 +1238,7 @@ last-pass-sub-last : (t : ℕ) → last-pass-lts.Need-sub-last (
 ) (last-pass-at t) last-pass.Post
 last-pass-sub-last t c = omega (arith, c .before .before .before .pre .1 .1 .0)
 
--- src/lib.rt:691:9
+-- src/lib.rt:791:9
 last-pass-invalidate-written-locals-requires :
     (t : ℕ) → last-pass-lts.Need-invalidate-written-locals-requires (
       invalidate-written-locals-reads.Asked,
@@ -1248,9 +1248,9 @@ last-pass-invalidate-written-locals-requires :
       last-end-reads.Asked,
       last-end-reads.Learnt,
     ) (last-pass-at t) last-pass.Post
-last-pass-invalidate-written-locals-requires t c κs = (c .before .before .before .pre .1 .0 .of .base, c .before .before .before .pre .1 .0 .of .length, c .before .before .before .pre .1 .0 .of .within, omega (arith, c .before .before .before .pre .1 .1 .0, c .before .before .before .pre .1 .1 .1), omega (arith, c .before .before .before .pre .1 .0 .of .locals, locals-low (c .before .before .before .args .t .now) (c .before .before .before .args .x .chunk)), c .before .before .before .pre .1 .1 .3)
+last-pass-invalidate-written-locals-requires t c κs = (c .before .before .before .pre .1 .0 .of .first, c .before .before .before .pre .1 .0 .of .count, c .before .before .before .pre .1 .0 .of .within, omega (arith, c .before .before .before .pre .1 .1 .0, c .before .before .before .pre .1 .1 .1), omega (arith, c .before .before .before .pre .1 .0 .of .locals, locals-low (c .before .before .before .args .t .now) (c .before .before .before .args .x .chunk)), c .before .before .before .pre .1 .1 .3)
 
--- src/lib.rt:693:9
+-- src/lib.rt:796:9
 last-pass-interp-region-requires : (t : ℕ) → last-pass-lts.Need-interp-region-requires (
   invalidate-written-locals-reads.Asked,
   invalidate-written-locals-reads.Learnt,
@@ -1259,9 +1259,9 @@ last-pass-interp-region-requires : (t : ℕ) → last-pass-lts.Need-interp-regio
   last-end-reads.Asked,
   last-end-reads.Learnt,
 ) (last-pass-at t) last-pass.Post
-last-pass-interp-region-requires t c κs = (omega (arith, c .before .before .before .before .before .before .pre .0, c .before .before .before .before .before .before .pre .1 .1 .0), record { placed = c .before .before .before .before .before .before .pre .1 .0; from = c .before .before .before .before .before .before .args .ip + 1; arm = Cycle.loop-arm-in (c .before .before .before .before .before .before .args .t .now) (c .before .before .before .before .before .before .args .x) (c .before .before .before .before .before .before .args .ip) (c .before .before .before .before .before .before .args .exit) (c .before .before .before .before .before .before .pre .1 .0 .of .base) (c .before .before .before .before .before .before .pre .1 .0 .of .length) (omega (arith, c .before .before .before .before .before .before .pre .1 .1 .0, c .before .before .before .before .before .before .pre .1 .1 .1)) (c .before .before .before .before .before .before .pre .1 .1 .4); after = omega arith; before = omega (arith, c .before .before .before .before .before .before .pre .1 .1 .0); floor-low = c .before .before .before .before .before .before .pre .1 .1 .2; height-low = omega (arith, c .before .before .invalidate-written-locals .ensures .0, c .before .before .before .before .before .before .pre .1 .1 .3); breaks-low = omega (arith, c .before .before .invalidate-written-locals .ensures .0, c .before .before .before .before .before .before .pre .1 .1 .3) })
+last-pass-interp-region-requires t c κs = (omega (arith, c .before .before .before .before .before .before .pre .0, c .before .before .before .before .before .before .pre .1 .1 .0), record { placed = c .before .before .before .before .before .before .pre .1 .0; from = c .before .before .before .before .before .before .args .ip + 1; arm = Cycle.loop-arm-in (c .before .before .before .before .before .before .args .t .now) (c .before .before .before .before .before .before .args .x) (c .before .before .before .before .before .before .args .ip) (c .before .before .before .before .before .before .args .exit) (c .before .before .before .before .before .before .pre .1 .0 .of .first) (c .before .before .before .before .before .before .pre .1 .0 .of .count) (omega (arith, c .before .before .before .before .before .before .pre .1 .1 .0, c .before .before .before .before .before .before .pre .1 .1 .1)) (c .before .before .before .before .before .before .pre .1 .1 .4); after = omega arith; before = omega (arith, c .before .before .before .before .before .before .pre .1 .1 .0); floor-low = c .before .before .before .before .before .before .pre .1 .1 .2; height-low = omega (arith, c .before .before .invalidate-written-locals .ensures .0, c .before .before .before .before .before .before .pre .1 .1 .3); breaks-low = omega (arith, c .before .before .invalidate-written-locals .ensures .0, c .before .before .before .before .before .before .pre .1 .1 .3) })
 
--- src/lib.rt:694:5
+-- src/lib.rt:797:5
 last-pass-last-end-requires : (t : ℕ) → last-pass-lts.Need-last-end-requires (
   invalidate-written-locals-reads.Asked,
   invalidate-written-locals-reads.Learnt,
@@ -1272,7 +1272,7 @@ last-pass-last-end-requires : (t : ℕ) → last-pass-lts.Need-last-end-requires
 ) (last-pass-at t) last-pass.Post
 last-pass-last-end-requires t c κs = (c .before .before .before .before .interp-region .ensures .1, omega (arith, c .before .before .before .before .before .before .before .invalidate-written-locals .ensures .0, c .before .before .before .before .before .before .before .before .before .before .before .pre .1 .1 .3), omega (arith, c .before .before .before .before .before .before .before .before .before .before .before .pre .1 .0 .of .locals, locals-low (c .before .before .before .before .before .before .before .before .before .before .before .args .t .now) (c .before .before .before .before .before .before .before .before .before .before .before .args .x .chunk)))
 
--- src/lib.rt:674:1
+-- src/lib.rt:774:1
 last-pass-same-length : (t : ℕ) → last-pass-lts.Need-same-length (
   invalidate-written-locals-reads.Asked,
   invalidate-written-locals-reads.Learnt,
@@ -1283,7 +1283,7 @@ last-pass-same-length : (t : ℕ) → last-pass-lts.Need-same-length (
 ) (last-pass-at t) last-pass.Post
 last-pass-same-length t c = search needs
 
--- src/lib.rt:674:1
+-- src/lib.rt:774:1
 last-pass-same-length-2 : (t : ℕ) → last-pass-lts.Need-same-length-2 (
   invalidate-written-locals-reads.Asked,
   invalidate-written-locals-reads.Learnt,
@@ -1294,7 +1294,7 @@ last-pass-same-length-2 : (t : ℕ) → last-pass-lts.Need-same-length-2 (
 ) (last-pass-at t) last-pass.Post
 last-pass-same-length-2 t c = search needs
 
--- src/lib.rt:674:1
+-- src/lib.rt:774:1
 last-pass-returns : (t : ℕ) → last-pass-lts.Need-returns (
   invalidate-written-locals-reads.Asked,
   invalidate-written-locals-reads.Learnt,
@@ -1305,7 +1305,7 @@ last-pass-returns : (t : ℕ) → last-pass-lts.Need-returns (
 ) (last-pass-at t) last-pass.Post
 last-pass-returns t c = (Cycle.last-made (c .before .before .before .before .before .before .before .before .before .before .before .before .args .t .now) (c .before .before .before .before .before .before .before .before .before .before .before .before .args .x) (c .before .before .before .before .before .before .before .before .before .before .before .before .args .ip) (c .before .before .before .before .before .before .before .before .before .before .before .before .args .exit) (c .before .before .before .before .before .before .before .before .before .before .before .before .args .floor) (c .before .before .before .before .before .before .before .before .before .before .before .before .args .head) (c .before .before .before .before .before .before .before .before .invalidate-written-locals .result) (c .before .before .before .before .before .before .before .before .invalidate-written-locals .ensures .1) _ refl (c .before .before .before .before .before .interp-region .result) _ _ (c .before .before .before .before .before .interp-region .ensures .0) (c .last-end .result) (c .last-end .ensures .0 _), c .last-end .ensures .1)
 
--- src/lib.rt:606:26
+-- src/lib.rt:693:26
 loop-at-add-mark-height : (t : ℕ) → loop-at-lts.Need-add-mark-height (
   mark-height-reads.Asked,
   mark-height-reads.Learnt,
@@ -1314,7 +1314,7 @@ loop-at-add-mark-height : (t : ℕ) → loop-at-lts.Need-add-mark-height (
 ) (loop-at-at t) loop-at.Post
 loop-at-add-mark-height t c = omega (arith, Cycle.inside (c .before .before .before .before .args .t .now) (c .before .before .before .before .args .heights .now) (c .before .before .before .before .args .blinds .now) (c .before .before .before .before .args .x) (c .before .before .before .before .args .ip) (c .before .before .before .before .args .end) (c .before .before .before .before .args .floor) _ _ (c .before .before .before .before .pre .1 .0) (c .before .before .before .before .pre .1 .1 .0), c .before .before .before .before .pre .1 .0 .placed .of .within)
 
--- src/lib.rt:606:5
+-- src/lib.rt:693:5
 loop-at-mark-height-requires : (t : ℕ) → loop-at-lts.Need-mark-height-requires (
   mark-height-reads.Asked,
   mark-height-reads.Learnt,
@@ -1323,16 +1323,16 @@ loop-at-mark-height-requires : (t : ℕ) → loop-at-lts.Need-mark-height-requir
 ) (loop-at-at t) loop-at.Post
 loop-at-mark-height-requires t c κs = (omega (arith, Cycle.inside (c .before .before .before .before .args .t .now) (c .before .before .before .before .args .heights .now) (c .before .before .before .before .args .blinds .now) (c .before .before .before .before .args .x) (c .before .before .before .before .args .ip) (c .before .before .before .before .args .end) (c .before .before .before .before .args .floor) _ _ (c .before .before .before .before .pre .1 .0) (c .before .before .before .before .pre .1 .1 .0), c .before .before .before .before .pre .1 .0 .placed .heights-long), c .before .before .before .before .pre .1 .0 .height-low)
 
--- src/lib.rt:607:9
+-- src/lib.rt:694:9
 loop-at-passes-at-requires : (t : ℕ) → loop-at-lts.Need-passes-at-requires (
   mark-height-reads.Asked,
   mark-height-reads.Learnt,
   passes-at-below t,
   passes-at.Post,
 ) (loop-at-at t) loop-at.Post
-loop-at-passes-at-requires t c κs = let q = Cycle.loop-in (c .before .before .before .before .before .before .before .before .before .args .t .now) (c .before .before .before .before .before .before .before .before .before .args .heights .now) (c .before .before .before .before .before .before .before .before .before .args .blinds .now) (c .before .before .before .before .before .before .before .before .before .args .x) (c .before .before .before .before .before .before .before .before .before .args .target) (c .before .before .before .before .before .before .before .before .before .args .ip) (c .before .before .before .before .before .before .before .before .before .args .end) (c .before .before .before .before .before .before .before .before .before .args .floor) _ _ (c .before .before .before .before .before .before .before .before .before .pre .1 .0) (c .before .before .before .before .before .before .before .before .before .pre .1 .1 .0) (c .before .before .before .before .before .before .before .before .before .pre .1 .1 .1) in (omega (arith, c .before .before .before .before .before .before .before .before .before .pre .0, q .0, q .1), (Cycle.placed-by (c .before .before .before .before .before .before .before .before .before .args .t .now) (c .before .before .before .before .before .before .before .before .before .args .heights .now) (c .before .before .before .before .before .before .before .before .before .args .blinds .now) _ (c .before .before .before .before .before .before .before .before .before .args .blinds .now) (c .before .before .before .before .before .before .before .before .before .args .x) (c .before .before .before .before .mark-height .kept .0) refl (c .before .before .before .before .before .before .before .before .before .pre .1 .0 .placed), (q .0, omega (arith, q .1, Cycle.arm-in (c .before .before .before .before .before .before .before .before .before .args .t .now) (c .before .before .before .before .before .before .before .before .before .args .x) _ (c .before .before .before .before .before .before .before .before .before .args .end) (c .before .before .before .before .before .before .before .before .before .pre .1 .0 .placed .of .length) (c .before .before .before .before .before .before .before .before .before .pre .1 .0 .placed .of .base) (c .before .before .before .before .before .before .before .before .before .pre .1 .0 .placed .nested) ((c .before .before .before .before .before .before .before .before .before .pre .1 .0) .arm)), c .before .before .before .before .before .before .before .before .before .pre .1 .0 .height-low, (c .before .before .before .before .before .before .before .before .before .pre .1 .1 .1))))
+loop-at-passes-at-requires t c κs = let q = Cycle.loop-in (c .before .before .before .before .before .before .before .before .before .args .t .now) (c .before .before .before .before .before .before .before .before .before .args .heights .now) (c .before .before .before .before .before .before .before .before .before .args .blinds .now) (c .before .before .before .before .before .before .before .before .before .args .x) (c .before .before .before .before .before .before .before .before .before .args .target) (c .before .before .before .before .before .before .before .before .before .args .ip) (c .before .before .before .before .before .before .before .before .before .args .end) (c .before .before .before .before .before .before .before .before .before .args .floor) _ _ (c .before .before .before .before .before .before .before .before .before .pre .1 .0) (c .before .before .before .before .before .before .before .before .before .pre .1 .1 .0) (c .before .before .before .before .before .before .before .before .before .pre .1 .1 .1) in (omega (arith, c .before .before .before .before .before .before .before .before .before .pre .0, q .0, q .1), (Cycle.placed-by (c .before .before .before .before .before .before .before .before .before .args .t .now) (c .before .before .before .before .before .before .before .before .before .args .heights .now) (c .before .before .before .before .before .before .before .before .before .args .blinds .now) _ (c .before .before .before .before .before .before .before .before .before .args .blinds .now) (c .before .before .before .before .before .before .before .before .before .args .x) (c .before .before .before .before .mark-height .kept .0) refl (c .before .before .before .before .before .before .before .before .before .pre .1 .0 .placed), (q .0, omega (arith, q .1, Cycle.arm-in (c .before .before .before .before .before .before .before .before .before .args .t .now) (c .before .before .before .before .before .before .before .before .before .args .x) _ (c .before .before .before .before .before .before .before .before .before .args .end) (c .before .before .before .before .before .before .before .before .before .pre .1 .0 .placed .of .count) (c .before .before .before .before .before .before .before .before .before .pre .1 .0 .placed .of .first) (c .before .before .before .before .before .before .before .before .before .pre .1 .0 .placed .nested) ((c .before .before .before .before .before .before .before .before .before .pre .1 .0) .arm)), c .before .before .before .before .before .before .before .before .before .pre .1 .0 .height-low, (c .before .before .before .before .before .before .before .before .before .pre .1 .1 .1))))
 
--- src/lib.rt:611:26
+-- src/lib.rt:698:26
 loop-at-enum-known-f : (t : ℕ) → loop-at-lts.Need-enum-known-f (
   mark-height-reads.Asked,
   mark-height-reads.Learnt,
@@ -1341,7 +1341,7 @@ loop-at-enum-known-f : (t : ℕ) → loop-at-lts.Need-enum-known-f (
 ) (loop-at-at t) loop-at.Post
 loop-at-enum-known-f t c = search needs
 
--- src/lib.rt:617:34
+-- src/lib.rt:709:23
 loop-at-enum-told : (t : ℕ) → loop-at-lts.Need-enum-told (
   mark-height-reads.Asked,
   mark-height-reads.Learnt,
@@ -1350,7 +1350,7 @@ loop-at-enum-told : (t : ℕ) → loop-at-lts.Need-enum-told (
 ) (loop-at-at t) loop-at.Post
 loop-at-enum-told t c = search needs
 
--- src/lib.rt:588:1
+-- src/lib.rt:675:1
 loop-at-same-length : (t : ℕ) → loop-at-lts.Need-same-length (
   mark-height-reads.Asked,
   mark-height-reads.Learnt,
@@ -1359,7 +1359,7 @@ loop-at-same-length : (t : ℕ) → loop-at-lts.Need-same-length (
 ) (loop-at-at t) loop-at.Post
 loop-at-same-length t c = search needs
 
--- src/lib.rt:588:1
+-- src/lib.rt:675:1
 loop-at-same-length-2 : (t : ℕ) → loop-at-lts.Need-same-length-2 (
   mark-height-reads.Asked,
   mark-height-reads.Learnt,
@@ -1368,7 +1368,7 @@ loop-at-same-length-2 : (t : ℕ) → loop-at-lts.Need-same-length-2 (
 ) (loop-at-at t) loop-at.Post
 loop-at-same-length-2 t c = search needs
 
--- src/lib.rt:588:1
+-- src/lib.rt:675:1
 loop-at-returns : (t : ℕ) → loop-at-lts.Need-returns (
   mark-height-reads.Asked,
   mark-height-reads.Learnt,
@@ -1376,9 +1376,9 @@ loop-at-returns : (t : ℕ) → loop-at-lts.Need-returns (
   passes-at.Post,
 ) (loop-at-at t) loop-at.Post
 unfolding Outcomes.onwardOf
-loop-at-returns t c = (Cycle.loop-stopped (c .before .before .before .before .before .before .before .before .before .before .before .before .before .before .before .before .before .before .args .t .now) (c .before .before .before .before .before .before .before .before .before .before .before .before .before .before .before .before .before .before .args .x) (c .before .before .before .before .before .before .before .before .before .before .before .before .before .before .before .before .before .before .args .target) (c .before .before .before .before .before .before .before .before .before .before .before .before .before .before .before .before .before .before .args .ip) (c .before .before .before .before .before .before .before .before .before .before .before .before .before .before .before .before .before .before .args .end) (c .before .before .before .before .before .before .before .before .before .before .before .before .before .before .before .before .before .before .args .floor) (c .before .before .before .before .before .before .before .before .before .before .before .before .before .before .before .before .before .before .args .s) (c .before .before .before .before .before .before .before .before .before .before .before .before .before .before .before .before .before .before .args .b) (c .before .before .before .before .before .before .before .before .before .before .before .before .before .before .before .before .before .before .args .heights .now) (c .before .before .before .before .before .before .before .before .before .before .before .before .before .before .before .before .before .before .args .blinds .now) _ (c .before .before .before .before .before .before .before .before .before .before .before .before .before .before .before .before .before .before .pre .1 .0 .placed .of .base) (c .before .before .before .before .before .before .before .before .before .before .before .before .before .before .before .before .before .before .pre .1 .1 .1) (c .before .before .before .before .before .before .before .before .before .before .before .before .before .mark-height .ensures) (c .before .before .before .before .before .before .before .before .passes-at .result) _ (c .before .before .before .before .before .before .before .before .passes-at .ensures .0) (c .before .f .given .1), (let q = Cycle.loop-in (c .before .before .before .before .before .before .before .before .before .before .before .before .before .before .before .before .before .before .args .t .now) (c .before .before .before .before .before .before .before .before .before .before .before .before .before .before .before .before .before .before .args .heights .now) (c .before .before .before .before .before .before .before .before .before .before .before .before .before .before .before .before .before .before .args .blinds .now) (c .before .before .before .before .before .before .before .before .before .before .before .before .before .before .before .before .before .before .args .x) (c .before .before .before .before .before .before .before .before .before .before .before .before .before .before .before .before .before .before .args .target) (c .before .before .before .before .before .before .before .before .before .before .before .before .before .before .before .before .before .before .args .ip) (c .before .before .before .before .before .before .before .before .before .before .before .before .before .before .before .before .before .before .args .end) (c .before .before .before .before .before .before .before .before .before .before .before .before .before .before .before .before .before .before .args .floor) _ _ (c .before .before .before .before .before .before .before .before .before .before .before .before .before .before .before .before .before .before .pre .1 .0) (c .before .before .before .before .before .before .before .before .before .before .before .before .before .before .before .before .before .before .pre .1 .1 .0) (c .before .before .before .before .before .before .before .before .before .before .before .before .before .before .before .before .before .before .pre .1 .1 .1) in (omega (arith, q .0), q .1, (c .before .before .before .before .before .before .before .before .passes-at .ensures .1, c .before .before .before .before .before .before .before .before .before .before .before .before .before .before .before .before .before .before .pre .1 .0 .breaks-low))))
+loop-at-returns t c = (Cycle.loop-stopped (c .before .before .before .before .before .before .before .before .before .before .before .before .before .before .before .before .before .before .args .t .now) (c .before .before .before .before .before .before .before .before .before .before .before .before .before .before .before .before .before .before .args .x) (c .before .before .before .before .before .before .before .before .before .before .before .before .before .before .before .before .before .before .args .target) (c .before .before .before .before .before .before .before .before .before .before .before .before .before .before .before .before .before .before .args .ip) (c .before .before .before .before .before .before .before .before .before .before .before .before .before .before .before .before .before .before .args .end) (c .before .before .before .before .before .before .before .before .before .before .before .before .before .before .before .before .before .before .args .floor) (c .before .before .before .before .before .before .before .before .before .before .before .before .before .before .before .before .before .before .args .s) (c .before .before .before .before .before .before .before .before .before .before .before .before .before .before .before .before .before .before .args .b) (c .before .before .before .before .before .before .before .before .before .before .before .before .before .before .before .before .before .before .args .heights .now) (c .before .before .before .before .before .before .before .before .before .before .before .before .before .before .before .before .before .before .args .blinds .now) _ (c .before .before .before .before .before .before .before .before .before .before .before .before .before .before .before .before .before .before .pre .1 .0 .placed .of .first) (c .before .before .before .before .before .before .before .before .before .before .before .before .before .before .before .before .before .before .pre .1 .1 .1) (c .before .before .before .before .before .before .before .before .before .before .before .before .before .mark-height .ensures) (c .before .before .before .before .before .before .before .before .passes-at .result) _ (c .before .before .before .before .before .before .before .before .passes-at .ensures .0) (c .before .f .given .1), (let q = Cycle.loop-in (c .before .before .before .before .before .before .before .before .before .before .before .before .before .before .before .before .before .before .args .t .now) (c .before .before .before .before .before .before .before .before .before .before .before .before .before .before .before .before .before .before .args .heights .now) (c .before .before .before .before .before .before .before .before .before .before .before .before .before .before .before .before .before .before .args .blinds .now) (c .before .before .before .before .before .before .before .before .before .before .before .before .before .before .before .before .before .before .args .x) (c .before .before .before .before .before .before .before .before .before .before .before .before .before .before .before .before .before .before .args .target) (c .before .before .before .before .before .before .before .before .before .before .before .before .before .before .before .before .before .before .args .ip) (c .before .before .before .before .before .before .before .before .before .before .before .before .before .before .before .before .before .before .args .end) (c .before .before .before .before .before .before .before .before .before .before .before .before .before .before .before .before .before .before .args .floor) _ _ (c .before .before .before .before .before .before .before .before .before .before .before .before .before .before .before .before .before .before .pre .1 .0) (c .before .before .before .before .before .before .before .before .before .before .before .before .before .before .before .before .before .before .pre .1 .1 .0) (c .before .before .before .before .before .before .before .before .before .before .before .before .before .before .before .before .before .before .pre .1 .1 .1) in (omega (arith, q .0), q .1, (c .before .before .before .before .before .before .before .before .passes-at .ensures .1, c .before .before .before .before .before .before .before .before .before .before .before .before .before .before .before .before .before .before .pre .1 .0 .breaks-low))))
 
--- src/lib.rt:588:1
+-- src/lib.rt:675:1
 loop-at-same-length-3 : (t : ℕ) → loop-at-lts.Need-same-length-3 (
   mark-height-reads.Asked,
   mark-height-reads.Learnt,
@@ -1387,7 +1387,7 @@ loop-at-same-length-3 : (t : ℕ) → loop-at-lts.Need-same-length-3 (
 ) (loop-at-at t) loop-at.Post
 loop-at-same-length-3 t c = search needs
 
--- src/lib.rt:588:1
+-- src/lib.rt:675:1
 loop-at-same-length-4 : (t : ℕ) → loop-at-lts.Need-same-length-4 (
   mark-height-reads.Asked,
   mark-height-reads.Learnt,
@@ -1396,7 +1396,7 @@ loop-at-same-length-4 : (t : ℕ) → loop-at-lts.Need-same-length-4 (
 ) (loop-at-at t) loop-at.Post
 loop-at-same-length-4 t c = search needs
 
--- src/lib.rt:588:1
+-- src/lib.rt:675:1
 loop-at-returns-2 : (t : ℕ) → loop-at-lts.Need-returns-2 (
   mark-height-reads.Asked,
   mark-height-reads.Learnt,
@@ -1404,7 +1404,7 @@ loop-at-returns-2 : (t : ℕ) → loop-at-lts.Need-returns-2 (
   passes-at.Post,
 ) (loop-at-at t) loop-at.Post
 unfolding Outcomes.onwardOf
-loop-at-returns-2 t c = (Cycle.loop-after (c .before .before .before .before .before .before .before .before .before .before .before .before .before .before .before .before .before .args .t .now) (c .before .before .before .before .before .before .before .before .before .before .before .before .before .before .before .before .before .args .x) (c .before .before .before .before .before .before .before .before .before .before .before .before .before .before .before .before .before .args .target) (c .before .before .before .before .before .before .before .before .before .before .before .before .before .before .before .before .before .args .ip) (c .before .before .before .before .before .before .before .before .before .before .before .before .before .before .before .before .before .args .end) (c .before .before .before .before .before .before .before .before .before .before .before .before .before .before .before .before .before .args .floor) (c .before .before .before .before .before .before .before .before .before .before .before .before .before .before .before .before .before .args .s) (c .before .before .before .before .before .before .before .before .before .before .before .before .before .before .before .before .before .args .b) (c .before .before .before .before .before .before .before .before .before .before .before .before .before .before .before .before .before .args .heights .now) (c .before .before .before .before .before .before .before .before .before .before .before .before .before .before .before .before .before .args .blinds .now) _ (c .before .before .before .before .before .before .before .before .before .before .before .before .before .before .before .before .before .pre .1 .0 .placed .of .base) (c .before .before .before .before .before .before .before .before .before .before .before .before .before .before .before .before .before .pre .1 .1 .1) (c .before .before .before .before .before .before .before .before .before .before .before .before .mark-height .ensures) (c .before .before .before .before .before .before .before .passes-at .result) _ (c .before .before .before .before .before .before .before .passes-at .ensures .0) (c .enum-told .given .1), (let q = Cycle.loop-in (c .before .before .before .before .before .before .before .before .before .before .before .before .before .before .before .before .before .args .t .now) (c .before .before .before .before .before .before .before .before .before .before .before .before .before .before .before .before .before .args .heights .now) (c .before .before .before .before .before .before .before .before .before .before .before .before .before .before .before .before .before .args .blinds .now) (c .before .before .before .before .before .before .before .before .before .before .before .before .before .before .before .before .before .args .x) (c .before .before .before .before .before .before .before .before .before .before .before .before .before .before .before .before .before .args .target) (c .before .before .before .before .before .before .before .before .before .before .before .before .before .before .before .before .before .args .ip) (c .before .before .before .before .before .before .before .before .before .before .before .before .before .before .before .before .before .args .end) (c .before .before .before .before .before .before .before .before .before .before .before .before .before .before .before .before .before .args .floor) _ _ (c .before .before .before .before .before .before .before .before .before .before .before .before .before .before .before .before .before .pre .1 .0) (c .before .before .before .before .before .before .before .before .before .before .before .before .before .before .before .before .before .pre .1 .1 .0) (c .before .before .before .before .before .before .before .before .before .before .before .before .before .before .before .before .before .pre .1 .1 .1) in (omega (arith, q .0), q .1, (c .before .before .before .before .before .before .before .passes-at .ensures .1, c .before .before .before .before .before .before .before .before .before .before .before .before .before .before .before .before .before .pre .1 .0 .breaks-low))))
+loop-at-returns-2 t c = (Cycle.loop-after (c .before .before .before .before .before .before .before .before .before .before .before .before .before .before .before .before .before .args .t .now) (c .before .before .before .before .before .before .before .before .before .before .before .before .before .before .before .before .before .args .x) (c .before .before .before .before .before .before .before .before .before .before .before .before .before .before .before .before .before .args .target) (c .before .before .before .before .before .before .before .before .before .before .before .before .before .before .before .before .before .args .ip) (c .before .before .before .before .before .before .before .before .before .before .before .before .before .before .before .before .before .args .end) (c .before .before .before .before .before .before .before .before .before .before .before .before .before .before .before .before .before .args .floor) (c .before .before .before .before .before .before .before .before .before .before .before .before .before .before .before .before .before .args .s) (c .before .before .before .before .before .before .before .before .before .before .before .before .before .before .before .before .before .args .b) (c .before .before .before .before .before .before .before .before .before .before .before .before .before .before .before .before .before .args .heights .now) (c .before .before .before .before .before .before .before .before .before .before .before .before .before .before .before .before .before .args .blinds .now) _ (c .before .before .before .before .before .before .before .before .before .before .before .before .before .before .before .before .before .pre .1 .0 .placed .of .first) (c .before .before .before .before .before .before .before .before .before .before .before .before .before .before .before .before .before .pre .1 .1 .1) (c .before .before .before .before .before .before .before .before .before .before .before .before .mark-height .ensures) (c .before .before .before .before .before .before .before .passes-at .result) _ (c .before .before .before .before .before .before .before .passes-at .ensures .0) (c .enum-told .given .1), (let q = Cycle.loop-in (c .before .before .before .before .before .before .before .before .before .before .before .before .before .before .before .before .before .args .t .now) (c .before .before .before .before .before .before .before .before .before .before .before .before .before .before .before .before .before .args .heights .now) (c .before .before .before .before .before .before .before .before .before .before .before .before .before .before .before .before .before .args .blinds .now) (c .before .before .before .before .before .before .before .before .before .before .before .before .before .before .before .before .before .args .x) (c .before .before .before .before .before .before .before .before .before .before .before .before .before .before .before .before .before .args .target) (c .before .before .before .before .before .before .before .before .before .before .before .before .before .before .before .before .before .args .ip) (c .before .before .before .before .before .before .before .before .before .before .before .before .before .before .before .before .before .args .end) (c .before .before .before .before .before .before .before .before .before .before .before .before .before .before .before .before .before .args .floor) _ _ (c .before .before .before .before .before .before .before .before .before .before .before .before .before .before .before .before .before .pre .1 .0) (c .before .before .before .before .before .before .before .before .before .before .before .before .before .before .before .before .before .pre .1 .1 .0) (c .before .before .before .before .before .before .before .before .before .before .before .before .before .before .before .before .before .pre .1 .1 .1) in (omega (arith, q .0), q .1, (c .before .before .before .before .before .before .before .passes-at .ensures .1, c .before .before .before .before .before .before .before .before .before .before .before .before .before .before .before .before .before .pre .1 .0 .breaks-low))))
 
 abbrev passes-at-Inv-passes : passes-at-lts.InvT-passes
 passes-at-Inv-passes t heights₀ blinds₀ x ip exit locals floor no-breaks body last head₀ left₀ heights blinds head left = Cycle.Passing t x ip exit head₀ heights₀ blinds₀ heights blinds head left
@@ -1412,7 +1412,7 @@ passes-at-Inv-passes t heights₀ blinds₀ x ip exit locals floor no-breaks bod
 abbrev passes-at-μ-passes : passes-at-lts.MeasureT-passes
 passes-at-μ-passes t heights₀ blinds₀ x ip exit locals floor no-breaks body last head₀ left₀ heights blinds head left = left
 
--- src/lib.rt:639:16
+-- src/lib.rt:737:16
 passes-at-add-body : (t : ℕ) → passes-at-lts.Need-add-body (
   interp-region-below t,
   interp-region.Post,
@@ -1431,7 +1431,7 @@ passes-at-add-body : (t : ℕ) → passes-at-lts.Need-add-body (
 ) (passes-at-at t) passes-at.Post passes-at-Inv-passes passes-at-μ-passes
 passes-at-add-body t c = omega (arith, c .before .before .before .pre .1 .1 .0, c .before .before .before .pre .1 .1 .1, c .before .before .before .fits)
 
--- src/lib.rt:640:16
+-- src/lib.rt:738:16
 passes-at-sub-last : (t : ℕ) → passes-at-lts.Need-sub-last (
   interp-region-below t,
   interp-region.Post,
@@ -1450,7 +1450,7 @@ passes-at-sub-last : (t : ℕ) → passes-at-lts.Need-sub-last (
 ) (passes-at-at t) passes-at.Post passes-at-Inv-passes passes-at-μ-passes
 passes-at-sub-last t c = omega (arith, c .before .before .before .pre .1 .1 .0)
 
--- src/lib.rt:642:20
+-- src/lib.rt:740:20
 passes-at-add-left : (t : ℕ) → passes-at-lts.Need-add-left (
   interp-region-below t,
   interp-region.Post,
@@ -1469,7 +1469,7 @@ passes-at-add-left : (t : ℕ) → passes-at-lts.Need-add-left (
 ) (passes-at-at t) passes-at.Post passes-at-Inv-passes passes-at-μ-passes
 passes-at-add-left t c = omega (arith, c .before .before .before .pre .1 .0 .of .locals, locals-low (c .before .before .before .args .t .now) (c .before .before .before .args .x .chunk))
 
--- src/lib.rt:643:9
+-- src/lib.rt:741:9
 passes-at-passes-holds : (t : ℕ) → passes-at-lts.Need-passes-holds (
   interp-region-below t,
   interp-region.Post,
@@ -1488,7 +1488,7 @@ passes-at-passes-holds : (t : ℕ) → passes-at-lts.Need-passes-holds (
 ) (passes-at-at t) passes-at.Post passes-at-Inv-passes passes-at-μ-passes
 passes-at-passes-holds t c = Cycle.passing-start (c .before .before .before .args .t .now) (c .before .before .before .args .x) (c .before .before .before .args .ip) (c .before .before .before .args .exit) (c .before .before .before .args .s0) (c .before .before .before .args .heights .now) (c .before .before .before .args .blinds .now) (c .before .before .before .pre .1 .0 .of .locals) (omega (arith, c .before .before .before .pre .1 .0 .of .locals, locals-low (c .before .before .before .args .t .now) (c .before .before .before .args .x .chunk)))
 
--- src/lib.rt:644:13
+-- src/lib.rt:742:13
 passes-at-interp-region-requires : (t : ℕ) → passes-at-lts.Need-interp-region-requires (
   interp-region-below t,
   interp-region.Post,
@@ -1505,7 +1505,7 @@ passes-at-interp-region-requires : (t : ℕ) → passes-at-lts.Need-interp-regio
   join-locals-reads.Asked,
   join-locals-reads.Learnt,
 ) (passes-at-at t) passes-at.Post passes-at-Inv-passes passes-at-μ-passes
-passes-at-interp-region-requires t c κs = (omega (arith, c .before .before .before .before .before .before .pre .0, c .before .before .before .before .before .before .pre .1 .1 .0), record { placed = Cycle.placed-by (c .before .before .before .before .before .before .args .t .now) (c .before .before .before .before .before .before .args .heights .now) (c .before .before .before .before .before .before .args .blinds .now) (c .before .before .passes .heights) (c .before .before .passes .blinds) (c .before .before .before .before .before .before .args .x) ((c .before .before .passes .inv) .heights-same) ((c .before .before .passes .inv) .blinds-same) (c .before .before .before .before .before .before .pre .1 .0); from = c .before .before .before .before .before .before .args .ip + 1; arm = Cycle.loop-arm-in (c .before .before .before .before .before .before .args .t .now) (c .before .before .before .before .before .before .args .x) (c .before .before .before .before .before .before .args .ip) (c .before .before .before .before .before .before .args .exit) (c .before .before .before .before .before .before .pre .1 .0 .of .base) (c .before .before .before .before .before .before .pre .1 .0 .of .length) (omega (arith, c .before .before .before .before .before .before .pre .1 .1 .0, c .before .before .before .before .before .before .pre .1 .1 .1)) (c .before .before .before .before .before .before .pre .1 .1 .3); after = omega arith; before = omega (arith, c .before .before .before .before .before .before .pre .1 .1 .0); floor-low = c .before .before .before .before .before .before .pre .1 .1 .2; height-low = omega (arith, (c .before .before .passes .inv) .head-height, c .before .before .before .before .before .before .pre .1 .1 .2); breaks-low = c .before .before .before .before .before .before .pre .1 .1 .2 })
+passes-at-interp-region-requires t c κs = (omega (arith, c .before .before .before .before .before .before .pre .0, c .before .before .before .before .before .before .pre .1 .1 .0), record { placed = Cycle.placed-by (c .before .before .before .before .before .before .args .t .now) (c .before .before .before .before .before .before .args .heights .now) (c .before .before .before .before .before .before .args .blinds .now) (c .before .before .passes .heights) (c .before .before .passes .blinds) (c .before .before .before .before .before .before .args .x) ((c .before .before .passes .inv) .heights-same) ((c .before .before .passes .inv) .blinds-same) (c .before .before .before .before .before .before .pre .1 .0); from = c .before .before .before .before .before .before .args .ip + 1; arm = Cycle.loop-arm-in (c .before .before .before .before .before .before .args .t .now) (c .before .before .before .before .before .before .args .x) (c .before .before .before .before .before .before .args .ip) (c .before .before .before .before .before .before .args .exit) (c .before .before .before .before .before .before .pre .1 .0 .of .first) (c .before .before .before .before .before .before .pre .1 .0 .of .count) (omega (arith, c .before .before .before .before .before .before .pre .1 .1 .0, c .before .before .before .before .before .before .pre .1 .1 .1)) (c .before .before .before .before .before .before .pre .1 .1 .3); after = omega arith; before = omega (arith, c .before .before .before .before .before .before .pre .1 .1 .0); floor-low = c .before .before .before .before .before .before .pre .1 .1 .2; height-low = omega (arith, (c .before .before .passes .inv) .head-height, c .before .before .before .before .before .before .pre .1 .1 .2); breaks-low = c .before .before .before .before .before .before .pre .1 .1 .2 })
 
 passes-at-enum-told : (t : ℕ) → passes-at-lts.Need-enum-told (
   interp-region-below t,
@@ -1525,7 +1525,7 @@ passes-at-enum-told : (t : ℕ) → passes-at-lts.Need-enum-told (
 ) (passes-at-at t) passes-at.Post passes-at-Inv-passes passes-at-μ-passes
 passes-at-enum-told t c = search needs
 
--- src/lib.rt:650:31
+-- src/lib.rt:748:31
 passes-at-enum-told-2 : (t : ℕ) → passes-at-lts.Need-enum-told-2 (
   interp-region-below t,
   interp-region.Post,
@@ -1544,7 +1544,7 @@ passes-at-enum-told-2 : (t : ℕ) → passes-at-lts.Need-enum-told-2 (
 ) (passes-at-at t) passes-at.Post passes-at-Inv-passes passes-at-μ-passes
 passes-at-enum-told-2 t c = search needs
 
--- src/lib.rt:650:31
+-- src/lib.rt:748:31
 passes-at-leave-loop-requires : (t : ℕ) → passes-at-lts.Need-leave-loop-requires (
   interp-region-below t,
   interp-region.Post,
@@ -1563,7 +1563,7 @@ passes-at-leave-loop-requires : (t : ℕ) → passes-at-lts.Need-leave-loop-requ
 ) (passes-at-at t) passes-at.Post passes-at-Inv-passes passes-at-μ-passes
 passes-at-leave-loop-requires t c κs = (c .before .before .before .before .before .before .before .interp-region .ensures .1 .1, omega (arith, (c .before .before .before .before .before .before .before .before .before .before .passes .inv) .head-height, c .before .before .before .before .before .before .before .before .before .before .before .before .before .before .pre .1 .1 .2))
 
--- src/lib.rt:652:27
+-- src/lib.rt:750:27
 passes-at-enum-known-f : (t : ℕ) → passes-at-lts.Need-enum-known-f (
   interp-region-below t,
   interp-region.Post,
@@ -1582,7 +1582,7 @@ passes-at-enum-known-f : (t : ℕ) → passes-at-lts.Need-enum-known-f (
 ) (passes-at-at t) passes-at.Post passes-at-Inv-passes passes-at-μ-passes
 passes-at-enum-known-f t c = search needs
 
--- src/lib.rt:653:17
+-- src/lib.rt:751:17
 passes-at-same-length : (t : ℕ) → passes-at-lts.Need-same-length (
   interp-region-below t,
   interp-region.Post,
@@ -1601,7 +1601,7 @@ passes-at-same-length : (t : ℕ) → passes-at-lts.Need-same-length (
 ) (passes-at-at t) passes-at.Post passes-at-Inv-passes passes-at-μ-passes
 passes-at-same-length t c = search needs
 
--- src/lib.rt:653:17
+-- src/lib.rt:751:17
 passes-at-same-length-2 : (t : ℕ) → passes-at-lts.Need-same-length-2 (
   interp-region-below t,
   interp-region.Post,
@@ -1620,7 +1620,7 @@ passes-at-same-length-2 : (t : ℕ) → passes-at-lts.Need-same-length-2 (
 ) (passes-at-at t) passes-at.Post passes-at-Inv-passes passes-at-μ-passes
 passes-at-same-length-2 t c = search needs
 
--- src/lib.rt:653:17
+-- src/lib.rt:751:17
 passes-at-returns : (t : ℕ) → passes-at-lts.Need-returns (
   interp-region-below t,
   interp-region.Post,
@@ -1640,7 +1640,7 @@ passes-at-returns : (t : ℕ) → passes-at-lts.Need-returns (
 unfolding Outcomes.leavingOf
 passes-at-returns t c = (Cycle.pass-refused (c .before .before .before .before .before .before .before .before .before .before .before .before .before .before .before .args .t .now) (c .before .before .before .before .before .before .before .before .before .before .before .before .before .before .before .args .x) (c .before .before .before .before .before .before .before .before .before .before .before .before .before .before .before .args .ip) (c .before .before .before .before .before .before .before .before .before .before .before .before .before .before .before .args .exit) (c .before .before .before .before .before .before .before .before .before .before .before .before .before .before .before .args .s0) (c .before .before .before .before .before .before .before .before .before .before .before .before .before .before .before .args .heights .now) (c .before .before .before .before .before .before .before .before .before .before .before .before .before .before .before .args .blinds .now) (c .before .before .before .before .before .before .before .before .before .before .before .passes .heights) (c .before .before .before .before .before .before .before .before .before .before .before .passes .blinds) (c .before .before .before .before .before .before .before .before .before .before .before .passes .head) (c .before .before .before .before .before .before .before .before .before .before .before .passes .left) (c .before .before .before .before .before .before .before .before .before .before .before .passes .inv) (c .before .before .before .before .before .before .before .before .interp-region .result) _ _ _ refl (c .before .before .before .before .before .before .before .before .interp-region .ensures .0) (c .before .f .given .1), omega (arith, (c .before .before .before .before .before .before .before .before .before .before .before .passes .inv) .head-height, c .before .before .before .before .before .before .before .before .before .before .before .before .before .before .before .pre .1 .1 .2))
 
--- src/lib.rt:657:12
+-- src/lib.rt:758:12
 passes-at-same-stack-requires : (t : ℕ) → passes-at-lts.Need-same-stack-requires (
   interp-region-below t,
   interp-region.Post,
@@ -1659,7 +1659,7 @@ passes-at-same-stack-requires : (t : ℕ) → passes-at-lts.Need-same-stack-requ
 ) (passes-at-at t) passes-at.Post passes-at-Inv-passes passes-at-μ-passes
 passes-at-same-stack-requires t c κs = c .before .before .before .before .before .before .before .before .interp-region .ensures .1 .0
 
--- src/lib.rt:659:13
+-- src/lib.rt:759:13
 passes-at-not-neutral-requires : (t : ℕ) → passes-at-lts.Need-not-neutral-requires (
   interp-region-below t,
   interp-region.Post,
@@ -1678,7 +1678,7 @@ passes-at-not-neutral-requires : (t : ℕ) → passes-at-lts.Need-not-neutral-re
 ) (passes-at-at t) passes-at.Post passes-at-Inv-passes passes-at-μ-passes
 passes-at-not-neutral-requires t c κs = search needs
 
--- src/lib.rt:659:13
+-- src/lib.rt:759:13
 passes-at-same-length-3 : (t : ℕ) → passes-at-lts.Need-same-length-3 (
   interp-region-below t,
   interp-region.Post,
@@ -1697,7 +1697,7 @@ passes-at-same-length-3 : (t : ℕ) → passes-at-lts.Need-same-length-3 (
 ) (passes-at-at t) passes-at.Post passes-at-Inv-passes passes-at-μ-passes
 passes-at-same-length-3 t c = search needs
 
--- src/lib.rt:659:13
+-- src/lib.rt:759:13
 passes-at-same-length-4 : (t : ℕ) → passes-at-lts.Need-same-length-4 (
   interp-region-below t,
   interp-region.Post,
@@ -1716,7 +1716,7 @@ passes-at-same-length-4 : (t : ℕ) → passes-at-lts.Need-same-length-4 (
 ) (passes-at-at t) passes-at.Post passes-at-Inv-passes passes-at-μ-passes
 passes-at-same-length-4 t c = search needs
 
--- src/lib.rt:659:13
+-- src/lib.rt:759:13
 passes-at-returns-2 : (t : ℕ) → passes-at-lts.Need-returns-2 (
   interp-region-below t,
   interp-region.Post,
@@ -1735,7 +1735,7 @@ passes-at-returns-2 : (t : ℕ) → passes-at-lts.Need-returns-2 (
 ) (passes-at-at t) passes-at.Post passes-at-Inv-passes passes-at-μ-passes
 passes-at-returns-2 t c = (c .not-neutral .ensures .0 (c .before .before .before .before .before .before .before .before .before .before .before .before .before .before .before .before .before .before .args .x .locals) _ ∙ Cycle.pass-not-neutral (c .before .before .before .before .before .before .before .before .before .before .before .before .before .before .before .before .before .before .args .t .now) (c .before .before .before .before .before .before .before .before .before .before .before .before .before .before .before .before .before .before .args .x) (c .before .before .before .before .before .before .before .before .before .before .before .before .before .before .before .before .before .before .args .ip) (c .before .before .before .before .before .before .before .before .before .before .before .before .before .before .before .before .before .before .args .exit) (c .before .before .before .before .before .before .before .before .before .before .before .before .before .before .before .before .before .before .args .s0) (c .before .before .before .before .before .before .before .before .before .before .before .before .before .before .before .before .before .before .args .heights .now) (c .before .before .before .before .before .before .before .before .before .before .before .before .before .before .before .before .before .before .args .blinds .now) (c .before .before .before .before .before .before .before .before .before .before .before .before .before .before .passes .heights) (c .before .before .before .before .before .before .before .before .before .before .before .before .before .before .passes .blinds) (c .before .before .before .before .before .before .before .before .before .before .before .before .before .before .passes .head) (c .before .before .before .before .before .before .before .before .before .before .before .before .before .before .passes .left) (c .before .before .before .before .before .before .before .before .before .before .before .before .before .before .passes .inv) (c .before .before .before .before .before .before .before .before .before .before .before .interp-region .result) _ _ _ refl (c .before .before .before .before .before .before .before .before .before .before .before .interp-region .ensures .0) (c .before .before .before .before .enum-told .given .1) (sym (c .before .before .same-stack .ensures) ∙ c .before .if1 .left), subst (λ (z : State). z .height ≤ 64) (sym (c .not-neutral .ensures .1)) (omega (arith, (c .before .before .before .before .before .before .before .before .before .before .before .before .before .before .passes .inv) .head-height, c .before .before .before .before .before .before .before .before .before .before .before .before .before .before .before .before .before .before .pre .1 .1 .2)))
 
--- src/lib.rt:661:12
+-- src/lib.rt:761:12
 passes-at-covers-locals-requires : (t : ℕ) → passes-at-lts.Need-covers-locals-requires (
   interp-region-below t,
   interp-region.Post,
@@ -1754,7 +1754,7 @@ passes-at-covers-locals-requires : (t : ℕ) → passes-at-lts.Need-covers-local
 ) (passes-at-at t) passes-at.Post passes-at-Inv-passes passes-at-μ-passes
 passes-at-covers-locals-requires t c κs = omega (arith, c .before .before .before .before .before .before .before .before .before .before .before .before .before .before .before .before .before .pre .1 .0 .of .locals, locals-low (c .before .before .before .before .before .before .before .before .before .before .before .before .before .before .before .before .before .args .t .now) (c .before .before .before .before .before .before .before .before .before .before .before .before .before .before .before .before .before .args .x .chunk))
 
--- src/lib.rt:662:27
+-- src/lib.rt:762:27
 passes-at-leave-loop-requires-2 : (t : ℕ) → passes-at-lts.Need-leave-loop-requires-2 (
   interp-region-below t,
   interp-region.Post,
@@ -1773,7 +1773,7 @@ passes-at-leave-loop-requires-2 : (t : ℕ) → passes-at-lts.Need-leave-loop-re
 ) (passes-at-at t) passes-at.Post passes-at-Inv-passes passes-at-μ-passes
 passes-at-leave-loop-requires-2 t c κs = (c .before .before .before .before .before .before .before .before .before .before .before .before .interp-region .ensures .1 .1, c .before .before .before .before .before .before .before .before .before .before .before .before .interp-region .ensures .1 .0)
 
--- src/lib.rt:665:27
+-- src/lib.rt:765:27
 passes-at-last-pass-requires : (t : ℕ) → passes-at-lts.Need-last-pass-requires (
   interp-region-below t,
   interp-region.Post,
@@ -1792,7 +1792,7 @@ passes-at-last-pass-requires : (t : ℕ) → passes-at-lts.Need-last-pass-requir
 ) (passes-at-at t) passes-at.Post passes-at-Inv-passes passes-at-μ-passes
 passes-at-last-pass-requires t c κs = (omega (arith, c .before .before .before .before .before .before .before .before .before .before .before .before .before .before .before .before .before .before .before .before .before .before .pre .0, c .before .before .before .before .before .before .before .before .before .before .before .before .before .before .before .before .before .before .before .before .before .before .pre .1 .1 .0), (Cycle.placed-by (c .before .before .before .before .before .before .before .before .before .before .before .before .before .before .before .before .before .before .before .before .before .before .args .t .now) (c .before .before .before .before .before .before .before .before .before .before .before .before .before .before .before .before .before .before .before .before .before .before .args .heights .now) (c .before .before .before .before .before .before .before .before .before .before .before .before .before .before .before .before .before .before .before .before .before .before .args .blinds .now) _ _ (c .before .before .before .before .before .before .before .before .before .before .before .before .before .before .before .before .before .before .before .before .before .before .args .x) (c .before .before .before .before .before .before .before .before .before .before .before .before .before .before .before .interp-region .kept .1 .0 ∙ (c .before .before .before .before .before .before .before .before .before .before .before .before .before .before .before .before .before .before .passes .inv) .heights-same) (c .before .before .before .before .before .before .before .before .before .before .before .before .before .before .before .interp-region .kept .1 .1 .0 ∙ (c .before .before .before .before .before .before .before .before .before .before .before .before .before .before .before .before .before .before .passes .inv) .blinds-same) (c .before .before .before .before .before .before .before .before .before .before .before .before .before .before .before .before .before .before .before .before .before .before .pre .1 .0), (c .before .before .before .before .before .before .before .before .before .before .before .before .before .before .before .before .before .before .before .before .before .before .pre .1 .1 .0, c .before .before .before .before .before .before .before .before .before .before .before .before .before .before .before .before .before .before .before .before .before .before .pre .1 .1 .1, c .before .before .before .before .before .before .before .before .before .before .before .before .before .before .before .before .before .before .before .before .before .before .pre .1 .1 .2, omega (arith, (c .before .before .before .before .before .before .before .before .before .before .before .before .before .before .before .before .before .before .passes .inv) .head-height, c .before .before .before .before .before .before .before .before .before .before .before .before .before .before .before .before .before .before .before .before .before .before .pre .1 .1 .2), c .before .before .before .before .before .before .before .before .before .before .before .before .before .before .before .before .before .before .before .before .before .before .pre .1 .1 .3)))
 
--- src/lib.rt:667:9
+-- src/lib.rt:767:9
 passes-at-join-locals-requires : (t : ℕ) → passes-at-lts.Need-join-locals-requires (
   interp-region-below t,
   interp-region.Post,
@@ -1811,7 +1811,7 @@ passes-at-join-locals-requires : (t : ℕ) → passes-at-lts.Need-join-locals-re
 ) (passes-at-at t) passes-at.Post passes-at-Inv-passes passes-at-μ-passes
 passes-at-join-locals-requires t c κs = (omega (arith, (c .before .before .before .before .before .before .before .before .before .before .before .before .before .before .before .before .passes .inv) .head-height, c .before .before .before .before .before .before .before .before .before .before .before .before .before .before .before .before .before .before .before .before .pre .1 .1 .2), omega (arith, c .before .before .before .before .before .before .before .before .before .before .before .before .before .before .before .before .before .before .before .before .pre .1 .0 .of .locals, locals-low (c .before .before .before .before .before .before .before .before .before .before .before .before .before .before .before .before .before .before .before .before .args .t .now) (c .before .before .before .before .before .before .before .before .before .before .before .before .before .before .before .before .before .before .before .before .args .x .chunk)))
 
--- src/lib.rt:668:9
+-- src/lib.rt:768:9
 passes-at-sub-left : (t : ℕ) → passes-at-lts.Need-sub-left (
   interp-region-below t,
   interp-region.Post,
@@ -1830,7 +1830,7 @@ passes-at-sub-left : (t : ℕ) → passes-at-lts.Need-sub-left (
 ) (passes-at-at t) passes-at.Post passes-at-Inv-passes passes-at-μ-passes
 passes-at-sub-left t c = omega (arith, c .before .if3 .left)
 
--- src/lib.rt:643:9
+-- src/lib.rt:741:9
 passes-at-passes-less : (t : ℕ) → passes-at-lts.Need-passes-less (
   interp-region-below t,
   interp-region.Post,
@@ -1849,7 +1849,7 @@ passes-at-passes-less : (t : ℕ) → passes-at-lts.Need-passes-less (
 ) (passes-at-at t) passes-at.Post passes-at-Inv-passes passes-at-μ-passes
 passes-at-passes-less t c = omega (arith, c .before .if3 .left)
 
--- src/lib.rt:643:9
+-- src/lib.rt:741:9
 passes-at-passes-again : (t : ℕ) → passes-at-lts.Need-passes-again (
   interp-region-below t,
   interp-region.Post,
@@ -1869,7 +1869,7 @@ passes-at-passes-again : (t : ℕ) → passes-at-lts.Need-passes-again (
 unfolding covers-all
 passes-at-passes-again t c = Cycle.pass-again (c .before .before .before .before .before .before .before .before .before .before .before .before .before .before .before .before .before .before .before .before .before .args .t .now) (c .before .before .before .before .before .before .before .before .before .before .before .before .before .before .before .before .before .before .before .before .before .args .x) (c .before .before .before .before .before .before .before .before .before .before .before .before .before .before .before .before .before .before .before .before .before .args .ip) (c .before .before .before .before .before .before .before .before .before .before .before .before .before .before .before .before .before .before .before .before .before .args .exit) (c .before .before .before .before .before .before .before .before .before .before .before .before .before .before .before .before .before .before .before .before .before .args .s0) (c .before .before .before .before .before .before .before .before .before .before .before .before .before .before .before .before .before .before .before .before .before .args .heights .now) (c .before .before .before .before .before .before .before .before .before .before .before .before .before .before .before .before .before .before .before .before .before .args .blinds .now) (c .before .before .before .before .before .before .before .before .before .before .before .before .before .before .before .before .before .passes .heights) (c .before .before .before .before .before .before .before .before .before .before .before .before .before .before .before .before .before .passes .blinds) (c .before .before .before .before .before .before .before .before .before .before .before .before .before .before .before .before .before .passes .head) (c .before .before .before .before .before .before .before .before .before .before .before .before .before .before .before .before .before .passes .left) (c .before .before .before .before .before .before .before .before .before .before .before .before .before .before .before .before .before .passes .inv) (c .before .before .before .before .before .before .before .before .before .before .before .before .before .before .interp-region .result) _ _ _ refl (c .before .before .before .before .before .before .before .before .before .before .before .before .before .before .interp-region .ensures .0) (c .before .before .before .before .before .before .before .enum-told .given .1) (sym (c .before .before .before .before .before .same-stack .ensures) ∙ c .before .before .before .before .if1 .taken) (sym (c .before .before .before .covers-locals .ensures) ∙ c .before .before .if2 .left) (c .before .if3 .left) (c .join-locals .result) (c .join-locals .ensures .0) (c .join-locals .ensures .1) (c .before .before .before .before .before .before .before .before .before .before .before .before .before .before .interp-region .kept .1 .0) (c .before .before .before .before .before .before .before .before .before .before .before .before .before .before .interp-region .kept .1 .1 .0)
 
--- src/lib.rt:623:1
+-- src/lib.rt:718:1
 passes-at-same-length-5 : (t : ℕ) → passes-at-lts.Need-same-length-5 (
   interp-region-below t,
   interp-region.Post,
@@ -1888,7 +1888,7 @@ passes-at-same-length-5 : (t : ℕ) → passes-at-lts.Need-same-length-5 (
 ) (passes-at-at t) passes-at.Post passes-at-Inv-passes passes-at-μ-passes
 passes-at-same-length-5 t c = search needs
 
--- src/lib.rt:623:1
+-- src/lib.rt:718:1
 passes-at-same-length-6 : (t : ℕ) → passes-at-lts.Need-same-length-6 (
   interp-region-below t,
   interp-region.Post,
@@ -1907,7 +1907,7 @@ passes-at-same-length-6 : (t : ℕ) → passes-at-lts.Need-same-length-6 (
 ) (passes-at-at t) passes-at.Post passes-at-Inv-passes passes-at-μ-passes
 passes-at-same-length-6 t c = search needs
 
--- src/lib.rt:623:1
+-- src/lib.rt:718:1
 passes-at-returns-3 : (t : ℕ) → passes-at-lts.Need-returns-3 (
   interp-region-below t,
   interp-region.Post,
@@ -1926,7 +1926,7 @@ passes-at-returns-3 : (t : ℕ) → passes-at-lts.Need-returns-3 (
 ) (passes-at-at t) passes-at.Post passes-at-Inv-passes passes-at-μ-passes
 passes-at-returns-3 t c = (c .leave-loop .ensures .0 _ ∙ Cycle.pass-no-end (c .before .before .before .before .before .before .before .before .before .before .before .before .before .before .before .args .t .now) (c .before .before .before .before .before .before .before .before .before .before .before .before .before .before .before .args .x) (c .before .before .before .before .before .before .before .before .before .before .before .before .before .before .before .args .ip) (c .before .before .before .before .before .before .before .before .before .before .before .before .before .before .before .args .exit) (c .before .before .before .before .before .before .before .before .before .before .before .before .before .before .before .args .s0) (c .before .before .before .before .before .before .before .before .before .before .before .before .before .before .before .args .heights .now) (c .before .before .before .before .before .before .before .before .before .before .before .before .before .before .before .args .blinds .now) (c .before .before .before .before .before .before .before .before .before .before .before .passes .heights) (c .before .before .before .before .before .before .before .before .before .before .before .passes .blinds) (c .before .before .before .before .before .before .before .before .before .before .before .passes .head) (c .before .before .before .before .before .before .before .before .before .before .before .passes .left) (c .before .before .before .before .before .before .before .before .before .before .before .passes .inv) (c .before .before .before .before .before .before .before .before .interp-region .result) _ _ _ refl (c .before .before .before .before .before .before .before .before .interp-region .ensures .0) (c .before .enum-told2 .given .1), c .leave-loop .ensures .1)
 
--- src/lib.rt:623:1
+-- src/lib.rt:718:1
 passes-at-same-length-7 : (t : ℕ) → passes-at-lts.Need-same-length-7 (
   interp-region-below t,
   interp-region.Post,
@@ -1945,7 +1945,7 @@ passes-at-same-length-7 : (t : ℕ) → passes-at-lts.Need-same-length-7 (
 ) (passes-at-at t) passes-at.Post passes-at-Inv-passes passes-at-μ-passes
 passes-at-same-length-7 t c = search needs
 
--- src/lib.rt:623:1
+-- src/lib.rt:718:1
 passes-at-same-length-8 : (t : ℕ) → passes-at-lts.Need-same-length-8 (
   interp-region-below t,
   interp-region.Post,
@@ -1964,7 +1964,7 @@ passes-at-same-length-8 : (t : ℕ) → passes-at-lts.Need-same-length-8 (
 ) (passes-at-at t) passes-at.Post passes-at-Inv-passes passes-at-μ-passes
 passes-at-same-length-8 t c = search needs
 
--- src/lib.rt:623:1
+-- src/lib.rt:718:1
 passes-at-returns-4 : (t : ℕ) → passes-at-lts.Need-returns-4 (
   interp-region-below t,
   interp-region.Post,
@@ -1984,7 +1984,7 @@ passes-at-returns-4 : (t : ℕ) → passes-at-lts.Need-returns-4 (
 unfolding covers-all
 passes-at-returns-4 t c = (c .leave-loop2 .ensures .0 _ ∙ Cycle.pass-stable (c .before .before .before .before .before .before .before .before .before .before .before .before .before .before .before .before .before .before .before .before .args .t .now) (c .before .before .before .before .before .before .before .before .before .before .before .before .before .before .before .before .before .before .before .before .args .x) (c .before .before .before .before .before .before .before .before .before .before .before .before .before .before .before .before .before .before .before .before .args .ip) (c .before .before .before .before .before .before .before .before .before .before .before .before .before .before .before .before .before .before .before .before .args .exit) (c .before .before .before .before .before .before .before .before .before .before .before .before .before .before .before .before .before .before .before .before .args .s0) (c .before .before .before .before .before .before .before .before .before .before .before .before .before .before .before .before .before .before .before .before .args .heights .now) (c .before .before .before .before .before .before .before .before .before .before .before .before .before .before .before .before .before .before .before .before .args .blinds .now) (c .before .before .before .before .before .before .before .before .before .before .before .before .before .before .before .before .passes .heights) (c .before .before .before .before .before .before .before .before .before .before .before .before .before .before .before .before .passes .blinds) (c .before .before .before .before .before .before .before .before .before .before .before .before .before .before .before .before .passes .head) (c .before .before .before .before .before .before .before .before .before .before .before .before .before .before .before .before .passes .left) (c .before .before .before .before .before .before .before .before .before .before .before .before .before .before .before .before .passes .inv) (c .before .before .before .before .before .before .before .before .before .before .before .before .before .interp-region .result) _ _ _ refl (c .before .before .before .before .before .before .before .before .before .before .before .before .before .interp-region .ensures .0) (c .before .before .before .before .before .before .enum-told .given .1) (sym (c .before .before .before .before .same-stack .ensures) ∙ c .before .before .before .if1 .taken) (sym (c .before .before .covers-locals .ensures) ∙ c .before .if2 .taken), c .leave-loop2 .ensures .1)
 
--- src/lib.rt:623:1
+-- src/lib.rt:718:1
 passes-at-same-length-9 : (t : ℕ) → passes-at-lts.Need-same-length-9 (
   interp-region-below t,
   interp-region.Post,
@@ -2003,7 +2003,7 @@ passes-at-same-length-9 : (t : ℕ) → passes-at-lts.Need-same-length-9 (
 ) (passes-at-at t) passes-at.Post passes-at-Inv-passes passes-at-μ-passes
 passes-at-same-length-9 t c = c .before .before .before .before .last-pass .kept .1 .0 ∙ (c .before .before .before .before .before .before .before .before .before .before .before .before .before .before .before .before .before .before .before .before .interp-region .kept .1 .0 ∙ (c .before .before .before .before .before .before .before .before .before .before .before .before .before .before .before .before .before .before .before .before .before .before .before .passes .inv) .heights-same)
 
--- src/lib.rt:623:1
+-- src/lib.rt:718:1
 passes-at-same-length-10 : (t : ℕ) → passes-at-lts.Need-same-length-10 (
   interp-region-below t,
   interp-region.Post,
@@ -2022,7 +2022,7 @@ passes-at-same-length-10 : (t : ℕ) → passes-at-lts.Need-same-length-10 (
 ) (passes-at-at t) passes-at.Post passes-at-Inv-passes passes-at-μ-passes
 passes-at-same-length-10 t c = c .before .before .before .before .last-pass .kept .1 .1 .0 ∙ (c .before .before .before .before .before .before .before .before .before .before .before .before .before .before .before .before .before .before .before .before .interp-region .kept .1 .1 .0 ∙ (c .before .before .before .before .before .before .before .before .before .before .before .before .before .before .before .before .before .before .before .before .before .before .before .passes .inv) .blinds-same)
 
--- src/lib.rt:623:1
+-- src/lib.rt:718:1
 passes-at-returns-5 : (t : ℕ) → passes-at-lts.Need-returns-5 (
   interp-region-below t,
   interp-region.Post,

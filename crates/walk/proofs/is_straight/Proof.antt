@@ -5,15 +5,15 @@ use Rattle.walk.proofs.is_straight.Tie as tie
 use Rattle.walk.proofs.is_straight.Reads as reads
 use Rattle.walk.proofs.is_straight.Lts as lts
 
--- src/lib.rt:232:9
+-- src/lib.rt:271:9
 returns : tie.Need-returns
 returns c = straight-low _ (c .if1 .taken)
 
--- src/lib.rt:235:9
+-- src/lib.rt:274:9
 returns-2 : tie.Need-returns-2
 returns-2 c = straight-stream _ (c .if2 .taken)
 
--- src/lib.rt:228:1
+-- src/lib.rt:267:1
 returns-3 : tie.Need-returns-3
 returns-3 c = straight-else _ (omega (arith, c .before .if1 .left)) (c .if2 .left)
 

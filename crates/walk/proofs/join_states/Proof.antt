@@ -9,15 +9,15 @@ use Rattle.walk.proofs.join_states.Reads as reads
 use Rattle.walk.proofs.join_states.Lts as lts
 use Rattle.shapes.proofs.State.join.Reads as join-reads
 
--- src/lib.rt:159:13
+-- src/lib.rt:152:13
 join-requires : tie.Need-join-requires
 join-requires c κs = search needs
 
--- src/lib.rt:160:9
+-- src/lib.rt:153:9
 returns : tie.Need-returns
 returns c = ((λ sh. join-equal (c .before .before .before .before .before .args .locals) (c .before .before .before .before .before .args .ip) (c .before .before .before .before .before .args .a) (c .before .before .before .before .before .args .b) sh _ refl refl (c .before .if1 .taken) (c .join .ensures .1)), (omega (arith, c .join .ensures .0, c .before .before .before .before .before .pre), c .before .before .before .before .before .pre .2))
 
--- src/lib.rt:149:1
+-- src/lib.rt:142:1
 returns-2 : tie.Need-returns-2
 returns-2 c = ((λ sh. join-unequal (c .before .before .before .before .args .locals) (c .before .before .before .before .args .ip) (c .before .before .before .before .args .a) (c .before .before .before .before .args .b) sh _ refl (c .if1 .left)), (c .before .before .before .before .pre .0, c .before .before .before .before .pre .2))
 

@@ -15,45 +15,45 @@ use Rattle.walk.proofs.layout_of.Reads as reads
 use Rattle.walk.proofs.layout_of.Lts as lts
 use Rattle.bytecode.proofs.instr_at.Reads as instr-at-reads
 
--- src/lib.rt:247:18
+-- src/lib.rt:286:18
 add-if1 : tie.Need-add-if1
 add-if1 c = search needs
 
--- src/lib.rt:248:9
+-- src/lib.rt:287:9
 returns : tie.Need-returns
 unfolding elseOf
 returns c = else-behind _ (c .before .before .args .ip) (c .before .before .args .target) (c .if1 .taken)
 
--- src/lib.rt:250:14
+-- src/lib.rt:289:14
 sub-at : tie.Need-sub-at
 sub-at c = search needs
 
--- src/lib.rt:252:9
+-- src/lib.rt:291:9
 returns-2 : tie.Need-returns-2
 unfolding elseOf
-returns-2 c = else-past _ (c .before .before .before .args .ip) (c .before .before .before .args .target) (omega (arith, c .before .if1 .left)) (no-instr (c .before .before .before .args .t .now) (c .before .before .before .args .x .chunk) (c .before .before .before .args .x .base) (c .before .before .before .args .x .length) (c .before .before .before .args .target - 1) (c .before .before .before .pre .0) (c .before .before .before .pre .1) (c .if2 .taken))
+returns-2 c = else-past _ (c .before .before .before .args .ip) (c .before .before .before .args .target) (omega (arith, c .before .if1 .left)) (no-instr (c .before .before .before .args .t .now) (c .before .before .before .args .x .chunk) (c .before .before .before .args .x .first) (c .before .before .before .args .x .count) (c .before .before .before .args .target - 1) (c .before .before .before .pre .0) (c .before .before .before .pre .1) (c .if2 .taken))
 
--- src/lib.rt:254:35
+-- src/lib.rt:293:35
 add-instr-at : tie.Need-add-instr-at
 add-instr-at c = search needs
 
--- src/lib.rt:254:9
+-- src/lib.rt:293:9
 instr-at-requires : tie.Need-instr-at-requires
 instr-at-requires c κs = search needs
 
--- src/lib.rt:258:32
+-- src/lib.rt:297:32
 cast-t13 : tie.Need-cast-t13
 cast-t13 c = search needs
 
--- src/lib.rt:258:9
+-- src/lib.rt:297:9
 returns-3 : tie.Need-returns-3
 unfolding elseOf leads
-returns-3 c = else-there _ (c .before .before .before .before .before .args .ip) (c .before .before .before .before .before .args .target) _ (instr-here (c .before .before .before .before .before .args .t .now) (c .before .before .before .before .before .args .x .chunk) (c .before .before .before .before .before .args .x .base) (c .before .before .before .before .before .args .x .length) (c .before .before .before .before .before .args .target - 1) (c .before .before .before .before .before .pre .0) (c .before .before .before .before .before .pre .1) (omega (arith, c .before .before .if2 .left))) (omega (arith, c .before .before .before .if1 .left)) (c .before .instr-at .result .a) (leads-here (c .before .before .before .before .before .args .t .now) (c .before .before .before .before .before .args .x .chunk) (c .before .before .before .before .before .args .x .base) (c .before .before .before .before .before .args .x .length) (c .before .before .before .before .before .args .target - 1) (c .before .before .before .before .before .pre .0) (c .before .before .before .before .before .pre .1) (c .before .instr-at .result) (c .before .instr-at .ensures) ∙ ap (λ (k : ℕ). leads k (c .before .instr-at .result .a)) (c .if3 .taken))
+returns-3 c = else-there _ (c .before .before .before .before .before .args .ip) (c .before .before .before .before .before .args .target) _ (instr-here (c .before .before .before .before .before .args .t .now) (c .before .before .before .before .before .args .x .chunk) (c .before .before .before .before .before .args .x .first) (c .before .before .before .before .before .args .x .count) (c .before .before .before .before .before .args .target - 1) (c .before .before .before .before .before .pre .0) (c .before .before .before .before .before .pre .1) (omega (arith, c .before .before .if2 .left))) (omega (arith, c .before .before .before .if1 .left)) (c .before .instr-at .result .a) (leads-here (c .before .before .before .before .before .args .t .now) (c .before .before .before .before .before .args .x .chunk) (c .before .before .before .before .before .args .x .first) (c .before .before .before .before .before .args .x .count) (c .before .before .before .before .before .args .target - 1) (c .before .before .before .before .before .pre .0) (c .before .before .before .before .before .pre .1) (c .before .instr-at .result) (c .before .instr-at .ensures) ∙ ap (λ (k : ℕ). leads k (c .before .instr-at .result .a)) (c .if3 .taken))
 
--- src/lib.rt:241:1
+-- src/lib.rt:280:1
 returns-4 : tie.Need-returns-4
 unfolding elseOf
-returns-4 c = else-other _ (c .before .before .before .before .before .args .ip) (c .before .before .before .before .before .args .target) _ (instr-here (c .before .before .before .before .before .args .t .now) (c .before .before .before .before .before .args .x .chunk) (c .before .before .before .before .before .args .x .base) (c .before .before .before .before .before .args .x .length) (c .before .before .before .before .before .args .target - 1) (c .before .before .before .before .before .pre .0) (c .before .before .before .before .before .pre .1) (omega (arith, c .before .before .if2 .left))) (omega (arith, c .before .before .before .if1 .left)) (ap else-of (leads-here (c .before .before .before .before .before .args .t .now) (c .before .before .before .before .before .args .x .chunk) (c .before .before .before .before .before .args .x .base) (c .before .before .before .before .before .args .x .length) (c .before .before .before .before .before .args .target - 1) (c .before .before .before .before .before .pre .0) (c .before .before .before .before .before .pre .1) (c .before .instr-at .result) (c .before .instr-at .ensures)) ∙ not-else (c .before .instr-at .result .code) (c .before .instr-at .result .a) (c .before .instr-at .ensures .code-low) (c .if3 .left))
+returns-4 c = else-other _ (c .before .before .before .before .before .args .ip) (c .before .before .before .before .before .args .target) _ (instr-here (c .before .before .before .before .before .args .t .now) (c .before .before .before .before .before .args .x .chunk) (c .before .before .before .before .before .args .x .first) (c .before .before .before .before .before .args .x .count) (c .before .before .before .before .before .args .target - 1) (c .before .before .before .before .before .pre .0) (c .before .before .before .before .before .pre .1) (omega (arith, c .before .before .if2 .left))) (omega (arith, c .before .before .before .if1 .left)) (ap else-of (leads-here (c .before .before .before .before .before .args .t .now) (c .before .before .before .before .before .args .x .chunk) (c .before .before .before .before .before .args .x .first) (c .before .before .before .before .before .args .x .count) (c .before .before .before .before .before .args .target - 1) (c .before .before .before .before .before .pre .0) (c .before .before .before .before .before .pre .1) (c .before .instr-at .result) (c .before .instr-at .ensures)) ∙ not-else (c .before .instr-at .result .code) (c .before .instr-at .result .a) (c .before .instr-at .ensures .code-low) (c .if3 .left))
 
 pub layout-of-spec : {M : Type 1} → statement M
 layout-of-spec =

@@ -8,23 +8,23 @@ use Rattle.walk.proofs.mark_height.Tie as tie
 use Rattle.walk.proofs.mark_height.Reads as reads
 use Rattle.walk.proofs.mark_height.Lts as lts
 
--- src/lib.rt:198:20
+-- src/lib.rt:229:20
 add-heights : tie.Need-add-heights
 add-heights c = search needs
 
--- src/lib.rt:198:19
+-- src/lib.rt:229:19
 cast-heights : tie.Need-cast-heights
 cast-heights c = search needs
 
--- src/lib.rt:198:5
+-- src/lib.rt:229:5
 slice-write-heights : tie.Need-slice-write-heights
 slice-write-heights c = search needs
 
--- src/lib.rt:194:1
+-- src/lib.rt:225:1
 same-length : tie.Need-same-length
 same-length c = search needs
 
--- src/lib.rt:194:1
+-- src/lib.rt:225:1
 returns : tie.Need-returns
 returns c = ap (λ (n : ℕ). set (c .args .heights .now) (c .args .at) n) (suc-is (c .args .h))
 

@@ -5,7 +5,7 @@ use Rattle.walk.proofs.not_neutral.Tie as tie
 use Rattle.walk.proofs.not_neutral.Reads as reads
 use Rattle.walk.proofs.not_neutral.Lts as lts
 
--- src/lib.rt:183:1
+-- src/lib.rt:190:1
 returns : tie.Need-returns
 unfolding leavingOf numbers
 returns c = ((λ locals sh. refl), refl)

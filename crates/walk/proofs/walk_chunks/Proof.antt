@@ -19,56 +19,56 @@ Inv-loop t heights₀ blinds₀ n k₀ heights blinds k = Walked-to t heights₀
 abbrev μ-loop : tie.MeasureT-loop
 μ-loop t heights₀ blinds₀ n k₀ heights blinds k = count t 7 - k
 
--- src/lib.rt:849:9
+-- src/lib.rt:848:9
 count-requires : tie.Need-count-requires Inv-loop μ-loop
 count-requires c κs = search needs
 
--- src/lib.rt:851:5
+-- src/lib.rt:850:5
 loop-holds : tie.Need-loop-holds Inv-loop μ-loop
 loop-holds c = walked-none _ _ _
 
--- src/lib.rt:852:13
+-- src/lib.rt:851:13
 walk-chunk-requires : tie.Need-walk-chunk-requires Inv-loop μ-loop
 walk-chunk-requires c κs = roomy-by (c .before .before .before .before .before .before .before .before .args .t .now) (c .before .before .before .before .before .before .before .before .args .heights .now) (c .before .before .before .before .before .before .before .before .args .blinds .now) _ _ (c .before .before .before .loop .k) (c .before .before .before .loop .inv .heights-same) (c .before .before .before .loop .inv .blinds-same) (c .before .before .before .before .before .before .before .before .pre (c .before .before .before .loop .k) (omega (arith, c .before .before .loop-test .taken, c .before .before .before .before .count .ensures)))
 
--- src/lib.rt:854:30
+-- src/lib.rt:853:30
 enum-known-f : tie.Need-enum-known-f Inv-loop μ-loop
 enum-known-f c = search needs
 
--- src/lib.rt:855:13
+-- src/lib.rt:854:13
 same-length : tie.Need-same-length Inv-loop μ-loop
 same-length c = search needs
 
--- src/lib.rt:855:13
+-- src/lib.rt:854:13
 same-length-2 : tie.Need-same-length-2 Inv-loop μ-loop
 same-length-2 c = search needs
 
--- src/lib.rt:855:13
+-- src/lib.rt:854:13
 returns : tie.Need-returns Inv-loop μ-loop
 unfolding resultsOf
 returns c = walked-refused _ _ _ _ _ (c .before .before .before .before .before .before .before .before .before .before .before .loop .k) (c .before .before .before .before .before .before .before .before .before .before .before .loop .inv) (omega (arith, c .before .before .before .before .before .before .before .before .before .before .loop-test .taken, c .before .before .before .before .before .before .before .before .before .before .before .before .count .ensures)) (c .before .before .before .before .before .before .before .walk-chunk .result) _ _ (c .before .before .before .before .before .before .before .walk-chunk .ensures) (c .before .f .given .1)
 
--- src/lib.rt:857:9
+-- src/lib.rt:856:9
 add-k : tie.Need-add-k Inv-loop μ-loop
 add-k c = omega (arith, c .before .before .before .before .before .before .before .before .loop-test .taken, c .before .before .before .before .before .before .before .before .before .before .count .ensures, count-low (c .before .before .before .before .before .before .before .before .before .before .before .before .before .before .args .t .now) 7)
 
--- src/lib.rt:851:5
+-- src/lib.rt:850:5
 loop-less : tie.Need-loop-less Inv-loop μ-loop
 loop-less c = omega (arith, c .before .before .before .before .before .before .before .before .loop-test .taken, c .before .before .before .before .before .before .before .before .before .before .count .ensures)
 
--- src/lib.rt:851:5
+-- src/lib.rt:850:5
 loop-again : tie.Need-loop-again Inv-loop μ-loop
 loop-again c = walked-more _ _ _ _ _ (c .before .before .before .before .before .before .before .before .before .loop .k) (c .before .before .before .before .before .before .before .before .before .loop .inv) (omega (arith, c .before .before .before .before .before .before .before .before .loop-test .taken, c .before .before .before .before .before .before .before .before .before .before .count .ensures)) (c .before .before .before .before .before .walk-chunk .result) _ _ (c .before .before .before .before .before .walk-chunk .ensures) (open-by (c .before .before .before .before .before .walk-chunk .result .flow) (c .match .keys2)) (c .before .before .before .before .before .walk-chunk .kept .1 .0) (c .before .before .before .before .before .walk-chunk .kept .1 .1 .0)
 
--- src/lib.rt:845:1
+-- src/lib.rt:844:1
 same-length-3 : tie.Need-same-length-3 Inv-loop μ-loop
 same-length-3 c = search needs
 
--- src/lib.rt:845:1
+-- src/lib.rt:844:1
 same-length-4 : tie.Need-same-length-4 Inv-loop μ-loop
 same-length-4 c = search needs
 
--- src/lib.rt:845:1
+-- src/lib.rt:844:1
 returns-2 : tie.Need-returns-2 Inv-loop μ-loop
 unfolding resultsOf
 returns-2 c = walked-all _ _ _ _ _ (c .before .loop .k) (omega (arith, c .loop-test .left, c .before .before .count .ensures)) (c .before .loop .inv)
