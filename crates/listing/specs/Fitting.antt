@@ -285,39 +285,74 @@ add-fits m (slot-line s) f p e =
     record { header = f .header; shareds = f .shareds; privates = f .privates; enums = f .enums; natives = f .natives; sigs = f .sigs; chunks = f .chunks }
 add-fits m (shared-line s) f p e =
     record {
-      header = f .header; shareds = all-more SharedFits (m .shareds) s (f .shareds) p; privates = f .privates; enums = f .enums; natives = f .natives;
-      sigs = f .sigs; chunks = f .chunks;
+      header = f .header;
+      shareds = all-more SharedFits (m .shareds) s (f .shareds) p;
+      privates = f .privates;
+      enums = f .enums;
+      natives = f .natives;
+      sigs = f .sigs;
+      chunks = f .chunks;
     }
 add-fits m (private-line s) f p e =
     record {
-      header = f .header; shareds = f .shareds; privates = all-more PrivateFits (m .privates) s (f .privates) p; enums = f .enums; natives = f .natives;
-      sigs = f .sigs; chunks = f .chunks;
+      header = f .header;
+      shareds = f .shareds;
+      privates = all-more PrivateFits (m .privates) s (f .privates) p;
+      enums = f .enums;
+      natives = f .natives;
+      sigs = f .sigs;
+      chunks = f .chunks;
     }
 add-fits m (enum-line n) f p e =
     record {
-      header = f .header; shareds = f .shareds; privates = f .privates; enums = all-more EnumFits (m .enums) n (f .enums) p; natives = f .natives;
-      sigs = f .sigs; chunks = f .chunks;
+      header = f .header;
+      shareds = f .shareds;
+      privates = f .privates;
+      enums = all-more EnumFits (m .enums) n (f .enums) p;
+      natives = f .natives;
+      sigs = f .sigs;
+      chunks = f .chunks;
     }
 add-fits m (native-line w) f p e =
     record {
-      header = f .header; shareds = f .shareds; privates = f .privates; enums = f .enums; natives = all-more WireFits (m .natives) w (f .natives) p;
-      sigs = f .sigs; chunks = f .chunks;
+      header = f .header;
+      shareds = f .shareds;
+      privates = f .privates;
+      enums = f .enums;
+      natives = all-more WireFits (m .natives) w (f .natives) p;
+      sigs = f .sigs;
+      chunks = f .chunks;
     }
 add-fits m (sig-line g) f p e =
     let few : length (g .params) ≤ 16 = leb-true (length (g .params)) 16 (unless-true _ _ (second _ _ e)) in
     record {
-      header = f .header; shareds = f .shareds; privates = f .privates; enums = f .enums; natives = f .natives;
-      sigs = all-more SigFits (m .sigs) g (f .sigs) (record { ret = p .0; resume = p .1; params = p .2; few = few }); chunks = f .chunks;
+      header = f .header;
+      shareds = f .shareds;
+      privates = f .privates;
+      enums = f .enums;
+      natives = f .natives;
+      sigs = all-more SigFits (m .sigs) g (f .sigs) (record { ret = p .0; resume = p .1; params = p .2; few = few });
+      chunks = f .chunks;
     }
 add-fits m (chunk-line n) f p e =
     let small : n ≤ 32 = leb-true n 32 (unless-true _ _ (second _ _ e)) in
     record {
-      header = f .header; shareds = f .shareds; privates = f .privates; enums = f .enums; natives = f .natives; sigs = f .sigs;
+      header = f .header;
+      shareds = f .shareds;
+      privates = f .privates;
+      enums = f .enums;
+      natives = f .natives;
+      sigs = f .sigs;
       chunks = all-more CodeFits (m .chunks) _ (f .chunks) (record { locals = small; consts = tt; ops = tt });
     }
 add-fits m (const-line k) f p e =
     record {
-      header = f .header; shareds = f .shareds; privates = f .privates; enums = f .enums; natives = f .natives; sigs = f .sigs;
+      header = f .header;
+      shareds = f .shareds;
+      privates = f .privates;
+      enums = f .enums;
+      natives = f .natives;
+      sigs = f .sigs;
       chunks =
           last-fits (add-const k)
           (λ c d. record { locals = d .locals; consts = all-more ConstFits (c .consts) k (d .consts) p; ops = d .ops })
@@ -325,7 +360,12 @@ add-fits m (const-line k) f p e =
     }
 add-fits m (op-line o) f p e =
     record {
-      header = f .header; shareds = f .shareds; privates = f .privates; enums = f .enums; natives = f .natives; sigs = f .sigs;
+      header = f .header;
+      shareds = f .shareds;
+      privates = f .privates;
+      enums = f .enums;
+      natives = f .natives;
+      sigs = f .sigs;
       chunks =
           last-fits (add-op o)
           (λ c d. record { locals = d .locals; consts = d .consts; ops = all-more OpFits (c .ops) o (d .ops) p })
@@ -339,10 +379,20 @@ start-fits =
     record {
       header =
           record {
-            word = omega arith; float = omega arith; address-log = omega arith; shared-bytes = omega arith; pool-bytes = omega arith;
-            index-trap = omega arith; host-trap = omega arith;
+            word = omega arith;
+            float = omega arith;
+            address-log = omega arith;
+            shared-bytes = omega arith;
+            pool-bytes = omega arith;
+            index-trap = omega arith;
+            host-trap = omega arith;
           };
-      shareds = tt; privates = tt; enums = tt; natives = tt; sigs = tt; chunks = tt;
+      shareds = tt;
+      privates = tt;
+      enums = tt;
+      natives = tt;
+      sigs = tt;
+      chunks = tt;
     }
 
 -- ── The reader ────────────────────────────────────────────────────────────────────────────

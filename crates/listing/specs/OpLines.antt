@@ -272,6 +272,7 @@ module _ (s a : Bytes) (e : strip (bytes "(op ") s ≡ some a) where
     where
       h : T (is-none (lookup-from 0 (map name-bytes rs) (bytes (r .name))) && good-rows rs)
       h = and-r (clean (bytes (r .name))) _ g
+
       go : (x : Bool) → same-places (bytes (r .name)) (name-of a) ≡ x
           → whole shape-at (op-forms (suc n) rs) s ≡ line-of-row (lookup-from (suc n) (map name-bytes rs) (name-of a)) rest
           → _≡_ {A = Option Line}

@@ -150,12 +150,13 @@ clear-none t l = (l, λ j h. absurd (omega arith))
 
 pub clear-more : (t : List ℕ) (k : ℕ) → k < 10 → Cleared t k → Cleared (set t k 0) (k + 1)
 unfolding Cleared
-clear-more t k h c =
-    (length-set t k 0 ∙ c .0,
-    λ j l. ⊎-elim
-    (λ (e : j ≡ k). subst (λ (i : ℕ). getD (set t k 0) i 0 ≡ 0) (sym e) (getD-set-same t k 0 0 (omega (arith, c .0))))
-    (λ (n : j ≢ k). getD-set-other t k j 0 0 n ∙ c .1 j (below j k l n))
-    (eq-or j k))
+clear-more t k h c = (
+  length-set t k 0 ∙ c .0,
+  λ j l. ⊎-elim
+      (λ (e : j ≡ k). subst (λ (i : ℕ). getD (set t k 0) i 0 ≡ 0) (sym e) (getD-set-same t k 0 0 (omega (arith, c .0))))
+      (λ (n : j ≢ k). getD-set-other t k j 0 0 n ∙ c .1 j (below j k l n))
+      (eq-or j k),
+)
   where
     below : (j k : ℕ) → j < k + 1 → j ≢ k → j < k
     below j k l n = elim (decLt j k) [ yes p ↦ p | no q ↦ absurd (n (omega arith)) ]

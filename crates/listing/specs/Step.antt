@@ -265,7 +265,7 @@ module _ (e : Entry) (vs : List ℕ) (st : Stored (e .vals) (e .count) vs) where
   unfolding may-stand
   stands-not p w = rw w
 
--- ── The words of a row ────────────────────────────────────────────────────────────────────
+  -- ── The words of a row ────────────────────────────────────────────────────────────────────
 
   module _ (l : Line) (fit : Fits l (e .form) vs) (own : own-limit (e .form) vs ≡ none) where
     -- the count is right wherever the first word is one
@@ -276,6 +276,7 @@ module _ (e : Entry) (vs : List ℕ) (st : Stored (e .vals) (e .count) vs) where
         small : (b : Bool) → leb (length vs) 18 ≡ b → unless b (2 ∷ 0 ∷ 0 ∷ 2 ∷ []) ≡ none → length vs ≤ 18
         small true q d = leb-true (length vs) 18 q
         small false q d = absurd (let z : _≡_ {A = ℕ} 0 1 = cc in omega arith)
+
         go : (e .form ≡ 7) ⊎ (e .form ≢ 7) → length vs ≤ 18
         go (inl q) = small (leb (length vs) 18) refl (sym (rw q) ∙ own)
         go (inr q) = fit .short h q
@@ -330,6 +331,7 @@ module _ (e : Entry) (vs : List ℕ) (st : Stored (e .vals) (e .count) vs) where
         where
           past-one : (k : ℕ) → getD vs (suc k) 0 ≡ 0
           past-one k = List·getD-eq-default vs 0 {n = suc k} (omega (arith, fit .single f))
+
           at : (j : ℕ) → j < 19 → getD filled-row j 0 ≡ getD (head-word (e .form) (length vs) ∷ getD vs 0 0 ∷ a ∷ b ∷ []) j 0
           at zero h =
               getD-set-other (set headed 2 a) 3 0 b 0 (λ x. absurd (omega arith)) ∙ getD-set-other headed 2 0 a 0 (λ x. absurd (omega arith)) ∙ headed-first

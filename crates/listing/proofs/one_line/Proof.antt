@@ -41,13 +41,15 @@ may-stand-requires c κs = search needs
 
 -- src/lib.rt:723:9
 returns-2 : tie.Need-returns-2
-returns-2 c =
-    (λ n q p held sound.
-    let low : (c .before .before .before .before .read-entry .result) .form < 86 = omega arith in
-    let vs : List ℕ = (c .before .before .before .before .read-entry .ensures) .one low .1 in
-    let m : may-stand (q .place) ((c .before .before .before .before .read-entry .result) .form) vs ≡ false =
-    ap (λ (x : ℕ). may-stand x ((c .before .before .before .before .read-entry .result) .form) vs) p ∙ sym (c .before .may-stand .ensures vs ((c .before .before .before .before .read-entry .ensures) .one low .4)) ∙ not-true (c .before .may-stand .result) (c .if2 .taken) in
-    step-misplaced n q (c .before .before .before .before .before .before .before .args .s .now) (c .before .before .before .before .read-entry .result) (c .before .before .before .before .read-entry .ensures) low m _, c .before .before .before .before .before .before .before .pre .0)
+returns-2 c = (
+  λ n q p held sound.
+      let low : (c .before .before .before .before .read-entry .result) .form < 86 = omega arith in
+      let vs : List ℕ = (c .before .before .before .before .read-entry .ensures) .one low .1 in
+      let m : may-stand (q .place) ((c .before .before .before .before .read-entry .result) .form) vs ≡ false =
+      ap (λ (x : ℕ). may-stand x ((c .before .before .before .before .read-entry .result) .form) vs) p ∙ sym (c .before .may-stand .ensures vs ((c .before .before .before .before .read-entry .ensures) .one low .4)) ∙ not-true (c .before .may-stand .result) (c .if2 .taken) in
+      step-misplaced n q (c .before .before .before .before .before .before .before .args .s .now) (c .before .before .before .before .read-entry .result) (c .before .before .before .before .read-entry .ensures) low m _,
+  c .before .before .before .before .before .before .before .pre .0,
+)
 
 -- src/lib.rt:725:9
 kind-of-requires : tie.Need-kind-of-requires
@@ -59,14 +61,16 @@ place-after-requires c κs = search needs
 
 -- src/lib.rt:727:9
 returns-3 : tie.Need-returns-3
-returns-3 c =
-    (λ n q p held sound.
-    let low : (c .before .before .before .before .before .before .before .read-entry .result) .form < 86 = omega arith in
-    let vs : List ℕ = (c .before .before .before .before .before .before .before .read-entry .ensures) .one low .1 in
-    let m : may-stand (q .place) ((c .before .before .before .before .before .before .before .read-entry .result) .form) vs ≡ true =
-    ap (λ (x : ℕ). may-stand x ((c .before .before .before .before .before .before .before .read-entry .result) .form) vs) p ∙ sym (c .before .before .before .before .may-stand .ensures vs ((c .before .before .before .before .before .before .before .read-entry .ensures) .one low .4)) ∙ not-false (c .before .before .before .before .may-stand .result) (c .before .before .before .if2 .left) in
-    let k : c .before .before .kind-of .result ≡ form-kind ((c .before .before .before .before .before .before .before .read-entry .result) .form) = c .before .before .kind-of .ensures .0 in
-    step-close n q (c .before .before .before .before .before .before .before .before .before .before .args .s .now) (c .before .before .before .before .before .before .before .read-entry .result) (c .before .before .before .before .before .before .before .read-entry .ensures) low m (c .before .before .before .before .before .before .before .before .before .before .args .t .now) held sound (sym k ∙ c .before .if3 .taken) (c .place-after .result) (c .place-after .ensures ∙ ap (λ (x : ℕ). place-after x (c .before .before .before .before .before .before .before .before .before .before .args .place)) k ∙ ap (place-after (form-kind ((c .before .before .before .before .before .before .before .read-entry .result) .form))) (sym p)), c .before .before .before .before .before .before .before .before .before .before .pre .0)
+returns-3 c = (
+  λ n q p held sound.
+      let low : (c .before .before .before .before .before .before .before .read-entry .result) .form < 86 = omega arith in
+      let vs : List ℕ = (c .before .before .before .before .before .before .before .read-entry .ensures) .one low .1 in
+      let m : may-stand (q .place) ((c .before .before .before .before .before .before .before .read-entry .result) .form) vs ≡ true =
+      ap (λ (x : ℕ). may-stand x ((c .before .before .before .before .before .before .before .read-entry .result) .form) vs) p ∙ sym (c .before .before .before .before .may-stand .ensures vs ((c .before .before .before .before .before .before .before .read-entry .ensures) .one low .4)) ∙ not-false (c .before .before .before .before .may-stand .result) (c .before .before .before .if2 .left) in
+      let k : c .before .before .kind-of .result ≡ form-kind ((c .before .before .before .before .before .before .before .read-entry .result) .form) = c .before .before .kind-of .ensures .0 in
+      step-close n q (c .before .before .before .before .before .before .before .before .before .before .args .s .now) (c .before .before .before .before .before .before .before .read-entry .result) (c .before .before .before .before .before .before .before .read-entry .ensures) low m (c .before .before .before .before .before .before .before .before .before .before .args .t .now) held sound (sym k ∙ c .before .if3 .taken) (c .place-after .result) (c .place-after .ensures ∙ ap (λ (x : ℕ). place-after x (c .before .before .before .before .before .before .before .before .before .before .args .place)) k ∙ ap (place-after (form-kind ((c .before .before .before .before .before .before .before .read-entry .result) .form))) (sym p)),
+  c .before .before .before .before .before .before .before .before .before .before .pre .0,
+)
 
 -- src/lib.rt:729:8
 cap-of-requires : tie.Need-cap-of-requires
@@ -82,15 +86,17 @@ slice-read-if4 c = search needs
 
 -- src/lib.rt:730:9
 returns-4 : tie.Need-returns-4
-returns-4 c =
-    (λ n q p held sound.
-    let low : (c .before .before .before .before .before .before .before .before .before .read-entry .result) .form < 86 = omega arith in
-    let vs : List ℕ = (c .before .before .before .before .before .before .before .before .before .read-entry .ensures) .one low .1 in
-    let m : may-stand (q .place) ((c .before .before .before .before .before .before .before .before .before .read-entry .result) .form) vs ≡ true =
-    ap (λ (x : ℕ). may-stand x ((c .before .before .before .before .before .before .before .before .before .read-entry .result) .form) vs) p ∙ sym (c .before .before .before .before .before .before .may-stand .ensures vs ((c .before .before .before .before .before .before .before .before .before .read-entry .ensures) .one low .4)) ∙ not-false (c .before .before .before .before .before .before .may-stand .result) (c .before .before .before .before .before .if2 .left) in
-    let k : c .before .before .before .before .kind-of .result ≡ form-kind ((c .before .before .before .before .before .before .before .before .before .read-entry .result) .form) = c .before .before .before .before .kind-of .ensures .0 in
-    let small : form-kind ((c .before .before .before .before .before .before .before .before .before .read-entry .result) .form) < 10 = omega (arith, c .before .before .before .before .kind-of .ensures .1, c .before .before .before .if3 .left) in
-    step-full n q (c .before .before .before .before .before .before .before .before .before .before .before .before .args .s .now) (c .before .before .before .before .before .before .before .before .before .read-entry .result) (c .before .before .before .before .before .before .before .before .before .read-entry .ensures) low m (c .before .before .before .before .before .before .before .before .before .before .before .before .args .t .now) held sound small (subst (λ (x : ℕ). cap x ≤ getD (c .before .before .before .before .before .before .before .before .before .before .before .before .args .t .now) x 0) k (omega (arith, c .before .before .cap-of .ensures))) _, c .before .before .before .before .before .before .before .before .before .before .before .before .pre .0)
+returns-4 c = (
+  λ n q p held sound.
+      let low : (c .before .before .before .before .before .before .before .before .before .read-entry .result) .form < 86 = omega arith in
+      let vs : List ℕ = (c .before .before .before .before .before .before .before .before .before .read-entry .ensures) .one low .1 in
+      let m : may-stand (q .place) ((c .before .before .before .before .before .before .before .before .before .read-entry .result) .form) vs ≡ true =
+      ap (λ (x : ℕ). may-stand x ((c .before .before .before .before .before .before .before .before .before .read-entry .result) .form) vs) p ∙ sym (c .before .before .before .before .before .before .may-stand .ensures vs ((c .before .before .before .before .before .before .before .before .before .read-entry .ensures) .one low .4)) ∙ not-false (c .before .before .before .before .before .before .may-stand .result) (c .before .before .before .before .before .if2 .left) in
+      let k : c .before .before .before .before .kind-of .result ≡ form-kind ((c .before .before .before .before .before .before .before .before .before .read-entry .result) .form) = c .before .before .before .before .kind-of .ensures .0 in
+      let small : form-kind ((c .before .before .before .before .before .before .before .before .before .read-entry .result) .form) < 10 = omega (arith, c .before .before .before .before .kind-of .ensures .1, c .before .before .before .if3 .left) in
+      step-full n q (c .before .before .before .before .before .before .before .before .before .before .before .before .args .s .now) (c .before .before .before .before .before .before .before .before .before .read-entry .result) (c .before .before .before .before .before .before .before .before .before .read-entry .ensures) low m (c .before .before .before .before .before .before .before .before .before .before .before .before .args .t .now) held sound small (subst (λ (x : ℕ). cap x ≤ getD (c .before .before .before .before .before .before .before .before .before .before .before .before .args .t .now) x 0) k (omega (arith, c .before .before .cap-of .ensures))) _,
+  c .before .before .before .before .before .before .before .before .before .before .before .before .pre .0,
+)
 
 -- src/lib.rt:732:9
 own-limit-requires : tie.Need-own-limit-requires
@@ -98,29 +104,33 @@ own-limit-requires c κs = search needs
 
 -- src/lib.rt:734:9
 returns-5 : tie.Need-returns-5
-returns-5 c =
-    (λ n q p held sound.
-    let low : (c .before .before .before .before .before .before .before .before .before .before .before .read-entry .result) .form < 86 = omega arith in
-    let vs : List ℕ = (c .before .before .before .before .before .before .before .before .before .before .before .read-entry .ensures) .one low .1 in
-    let m : may-stand (q .place) ((c .before .before .before .before .before .before .before .before .before .before .before .read-entry .result) .form) vs ≡ true =
-    ap (λ (x : ℕ). may-stand x ((c .before .before .before .before .before .before .before .before .before .before .before .read-entry .result) .form) vs) p ∙ sym (c .before .before .before .before .before .before .before .before .may-stand .ensures vs ((c .before .before .before .before .before .before .before .before .before .before .before .read-entry .ensures) .one low .4)) ∙ not-false (c .before .before .before .before .before .before .before .before .may-stand .result) (c .before .before .before .before .before .before .before .if2 .left) in
-    let k : c .before .before .before .before .before .before .kind-of .result ≡ form-kind ((c .before .before .before .before .before .before .before .before .before .before .before .read-entry .result) .form) = c .before .before .before .before .before .before .kind-of .ensures .0 in
-    let small : form-kind ((c .before .before .before .before .before .before .before .before .before .before .before .read-entry .result) .form) < 10 = omega (arith, c .before .before .before .before .before .before .kind-of .ensures .1, c .before .before .before .before .before .if3 .left) in
-    let room : getD (c .before .before .before .before .before .before .before .before .before .before .before .before .before .before .args .t .now) (form-kind ((c .before .before .before .before .before .before .before .before .before .before .before .read-entry .result) .form)) 0 < cap (form-kind ((c .before .before .before .before .before .before .before .before .before .before .before .read-entry .result) .form)) = subst (λ (x : ℕ). getD (c .before .before .before .before .before .before .before .before .before .before .before .before .before .before .args .t .now) x 0 < cap x) k (omega (arith, c .before .before .before .before .cap-of .ensures)) in
-    step-many n q (c .before .before .before .before .before .before .before .before .before .before .before .before .before .before .args .s .now) (c .before .before .before .before .before .before .before .before .before .before .before .read-entry .result) (c .before .before .before .before .before .before .before .before .before .before .before .read-entry .ensures) low m (c .before .before .before .before .before .before .before .before .before .before .before .before .before .before .args .t .now) held sound small room (c .before .own-limit .ensures .0 vs ((c .before .before .before .before .before .before .before .before .before .before .before .read-entry .ensures) .one low .4) ∙ ap limit-of (c .if5 .taken)) _, c .before .before .before .before .before .before .before .before .before .before .before .before .before .before .pre .0)
+returns-5 c = (
+  λ n q p held sound.
+      let low : (c .before .before .before .before .before .before .before .before .before .before .before .read-entry .result) .form < 86 = omega arith in
+      let vs : List ℕ = (c .before .before .before .before .before .before .before .before .before .before .before .read-entry .ensures) .one low .1 in
+      let m : may-stand (q .place) ((c .before .before .before .before .before .before .before .before .before .before .before .read-entry .result) .form) vs ≡ true =
+      ap (λ (x : ℕ). may-stand x ((c .before .before .before .before .before .before .before .before .before .before .before .read-entry .result) .form) vs) p ∙ sym (c .before .before .before .before .before .before .before .before .may-stand .ensures vs ((c .before .before .before .before .before .before .before .before .before .before .before .read-entry .ensures) .one low .4)) ∙ not-false (c .before .before .before .before .before .before .before .before .may-stand .result) (c .before .before .before .before .before .before .before .if2 .left) in
+      let k : c .before .before .before .before .before .before .kind-of .result ≡ form-kind ((c .before .before .before .before .before .before .before .before .before .before .before .read-entry .result) .form) = c .before .before .before .before .before .before .kind-of .ensures .0 in
+      let small : form-kind ((c .before .before .before .before .before .before .before .before .before .before .before .read-entry .result) .form) < 10 = omega (arith, c .before .before .before .before .before .before .kind-of .ensures .1, c .before .before .before .before .before .if3 .left) in
+      let room : getD (c .before .before .before .before .before .before .before .before .before .before .before .before .before .before .args .t .now) (form-kind ((c .before .before .before .before .before .before .before .before .before .before .before .read-entry .result) .form)) 0 < cap (form-kind ((c .before .before .before .before .before .before .before .before .before .before .before .read-entry .result) .form)) = subst (λ (x : ℕ). getD (c .before .before .before .before .before .before .before .before .before .before .before .before .before .before .args .t .now) x 0 < cap x) k (omega (arith, c .before .before .before .before .cap-of .ensures)) in
+      step-many n q (c .before .before .before .before .before .before .before .before .before .before .before .before .before .before .args .s .now) (c .before .before .before .before .before .before .before .before .before .before .before .read-entry .result) (c .before .before .before .before .before .before .before .before .before .before .before .read-entry .ensures) low m (c .before .before .before .before .before .before .before .before .before .before .before .before .before .before .args .t .now) held sound small room (c .before .own-limit .ensures .0 vs ((c .before .before .before .before .before .before .before .before .before .before .before .read-entry .ensures) .one low .4) ∙ ap limit-of (c .if5 .taken)) _,
+  c .before .before .before .before .before .before .before .before .before .before .before .before .before .before .pre .0,
+)
 
 -- src/lib.rt:737:9
 returns-6 : tie.Need-returns-6
-returns-6 c =
-    (λ n q p held sound.
-    let low : (c .before .before .before .before .before .before .before .before .before .before .before .before .read-entry .result) .form < 86 = omega arith in
-    let vs : List ℕ = (c .before .before .before .before .before .before .before .before .before .before .before .before .read-entry .ensures) .one low .1 in
-    let m : may-stand (q .place) ((c .before .before .before .before .before .before .before .before .before .before .before .before .read-entry .result) .form) vs ≡ true =
-    ap (λ (x : ℕ). may-stand x ((c .before .before .before .before .before .before .before .before .before .before .before .before .read-entry .result) .form) vs) p ∙ sym (c .before .before .before .before .before .before .before .before .before .may-stand .ensures vs ((c .before .before .before .before .before .before .before .before .before .before .before .before .read-entry .ensures) .one low .4)) ∙ not-false (c .before .before .before .before .before .before .before .before .before .may-stand .result) (c .before .before .before .before .before .before .before .before .if2 .left) in
-    let k : c .before .before .before .before .before .before .before .kind-of .result ≡ form-kind ((c .before .before .before .before .before .before .before .before .before .before .before .before .read-entry .result) .form) = c .before .before .before .before .before .before .before .kind-of .ensures .0 in
-    let small : form-kind ((c .before .before .before .before .before .before .before .before .before .before .before .before .read-entry .result) .form) < 10 = omega (arith, c .before .before .before .before .before .before .before .kind-of .ensures .1, c .before .before .before .before .before .before .if3 .left) in
-    let room : getD (c .before .before .before .before .before .before .before .before .before .before .before .before .before .before .before .args .t .now) (form-kind ((c .before .before .before .before .before .before .before .before .before .before .before .before .read-entry .result) .form)) 0 < cap (form-kind ((c .before .before .before .before .before .before .before .before .before .before .before .before .read-entry .result) .form)) = subst (λ (x : ℕ). getD (c .before .before .before .before .before .before .before .before .before .before .before .before .before .before .before .args .t .now) x 0 < cap x) k (omega (arith, c .before .before .before .before .before .cap-of .ensures)) in
-    step-locals n q (c .before .before .before .before .before .before .before .before .before .before .before .before .before .before .before .args .s .now) (c .before .before .before .before .before .before .before .before .before .before .before .before .read-entry .result) (c .before .before .before .before .before .before .before .before .before .before .before .before .read-entry .ensures) low m (c .before .before .before .before .before .before .before .before .before .before .before .before .before .before .before .args .t .now) held sound small room (c .before .before .own-limit .ensures .0 vs ((c .before .before .before .before .before .before .before .before .before .before .before .before .read-entry .ensures) .one low .4) ∙ ap limit-of (c .if6 .taken)) _, c .before .before .before .before .before .before .before .before .before .before .before .before .before .before .before .pre .0)
+returns-6 c = (
+  λ n q p held sound.
+      let low : (c .before .before .before .before .before .before .before .before .before .before .before .before .read-entry .result) .form < 86 = omega arith in
+      let vs : List ℕ = (c .before .before .before .before .before .before .before .before .before .before .before .before .read-entry .ensures) .one low .1 in
+      let m : may-stand (q .place) ((c .before .before .before .before .before .before .before .before .before .before .before .before .read-entry .result) .form) vs ≡ true =
+      ap (λ (x : ℕ). may-stand x ((c .before .before .before .before .before .before .before .before .before .before .before .before .read-entry .result) .form) vs) p ∙ sym (c .before .before .before .before .before .before .before .before .before .may-stand .ensures vs ((c .before .before .before .before .before .before .before .before .before .before .before .before .read-entry .ensures) .one low .4)) ∙ not-false (c .before .before .before .before .before .before .before .before .before .may-stand .result) (c .before .before .before .before .before .before .before .before .if2 .left) in
+      let k : c .before .before .before .before .before .before .before .kind-of .result ≡ form-kind ((c .before .before .before .before .before .before .before .before .before .before .before .before .read-entry .result) .form) = c .before .before .before .before .before .before .before .kind-of .ensures .0 in
+      let small : form-kind ((c .before .before .before .before .before .before .before .before .before .before .before .before .read-entry .result) .form) < 10 = omega (arith, c .before .before .before .before .before .before .before .kind-of .ensures .1, c .before .before .before .before .before .before .if3 .left) in
+      let room : getD (c .before .before .before .before .before .before .before .before .before .before .before .before .before .before .before .args .t .now) (form-kind ((c .before .before .before .before .before .before .before .before .before .before .before .before .read-entry .result) .form)) 0 < cap (form-kind ((c .before .before .before .before .before .before .before .before .before .before .before .before .read-entry .result) .form)) = subst (λ (x : ℕ). getD (c .before .before .before .before .before .before .before .before .before .before .before .before .before .before .before .args .t .now) x 0 < cap x) k (omega (arith, c .before .before .before .before .before .cap-of .ensures)) in
+      step-locals n q (c .before .before .before .before .before .before .before .before .before .before .before .before .before .before .before .args .s .now) (c .before .before .before .before .before .before .before .before .before .before .before .before .read-entry .result) (c .before .before .before .before .before .before .before .before .before .before .before .before .read-entry .ensures) low m (c .before .before .before .before .before .before .before .before .before .before .before .before .before .before .before .args .t .now) held sound small room (c .before .before .own-limit .ensures .0 vs ((c .before .before .before .before .before .before .before .before .before .before .before .before .read-entry .ensures) .one low .4) ∙ ap limit-of (c .if6 .taken)) _,
+  c .before .before .before .before .before .before .before .before .before .before .before .before .before .before .before .pre .0,
+)
 
 -- src/lib.rt:739:28
 slice-read-row-words : tie.Need-slice-read-row-words
@@ -149,16 +159,18 @@ same-length c = search needs
 -- src/lib.rt:714:1
 returns-7 : tie.Need-returns-7
 unfolding limit-of
-returns-7 c =
-    (λ n q p held sound.
-    let low : (c .before .before .before .before .before .before .before .before .before .before .before .before .before .before .before .before .before .before .before .before .before .read-entry .result) .form < 86 = omega arith in
-    let vs : List ℕ = (c .before .before .before .before .before .before .before .before .before .before .before .before .before .before .before .before .before .before .before .before .before .read-entry .ensures) .one low .1 in
-    let m : may-stand (q .place) ((c .before .before .before .before .before .before .before .before .before .before .before .before .before .before .before .before .before .before .before .before .before .read-entry .result) .form) vs ≡ true =
-    ap (λ (x : ℕ). may-stand x ((c .before .before .before .before .before .before .before .before .before .before .before .before .before .before .before .before .before .before .before .before .before .read-entry .result) .form) vs) p ∙ sym (c .before .before .before .before .before .before .before .before .before .before .before .before .before .before .before .before .before .before .may-stand .ensures vs ((c .before .before .before .before .before .before .before .before .before .before .before .before .before .before .before .before .before .before .before .before .before .read-entry .ensures) .one low .4)) ∙ not-false (c .before .before .before .before .before .before .before .before .before .before .before .before .before .before .before .before .before .before .may-stand .result) (c .before .before .before .before .before .before .before .before .before .before .before .before .before .before .before .before .before .if2 .left) in
-    let k : c .before .before .before .before .before .before .before .before .before .before .before .before .before .before .before .before .kind-of .result ≡ form-kind ((c .before .before .before .before .before .before .before .before .before .before .before .before .before .before .before .before .before .before .before .before .before .read-entry .result) .form) = c .before .before .before .before .before .before .before .before .before .before .before .before .before .before .before .before .kind-of .ensures .0 in
-    let small : form-kind ((c .before .before .before .before .before .before .before .before .before .before .before .before .before .before .before .before .before .before .before .before .before .read-entry .result) .form) < 10 = omega (arith, c .before .before .before .before .before .before .before .before .before .before .before .before .before .before .before .before .kind-of .ensures .1, c .before .before .before .before .before .before .before .before .before .before .before .before .before .before .before .if3 .left) in
-    let room : getD (c .before .before .before .before .before .before .before .before .before .before .before .before .before .before .before .before .before .before .before .before .before .before .before .before .args .t .now) (form-kind ((c .before .before .before .before .before .before .before .before .before .before .before .before .before .before .before .before .before .before .before .before .before .read-entry .result) .form)) 0 < cap (form-kind ((c .before .before .before .before .before .before .before .before .before .before .before .before .before .before .before .before .before .before .before .before .before .read-entry .result) .form)) = subst (λ (x : ℕ). getD (c .before .before .before .before .before .before .before .before .before .before .before .before .before .before .before .before .before .before .before .before .before .before .before .before .args .t .now) x 0 < cap x) k (omega (arith, c .before .before .before .before .before .before .before .before .before .before .before .before .before .before .cap-of .ensures)) in
-    step-stored n q (c .before .before .before .before .before .before .before .before .before .before .before .before .before .before .before .before .before .before .before .before .before .before .before .before .args .s .now) (c .before .before .before .before .before .before .before .before .before .before .before .before .before .before .before .before .before .before .before .before .before .read-entry .result) (c .before .before .before .before .before .before .before .before .before .before .before .before .before .before .before .before .before .before .before .before .before .read-entry .ensures) low m (c .before .before .before .before .before .before .before .before .before .before .before .before .before .before .before .before .before .before .before .before .before .before .before .before .args .t .now) held sound small room (c .before .before .before .before .before .before .before .before .before .before .before .own-limit .ensures .0 vs ((c .before .before .before .before .before .before .before .before .before .before .before .before .before .before .before .before .before .before .before .before .before .read-entry .ensures) .one low .4) ∙ ap limit-of (let z : c .before .before .before .before .before .before .before .before .before .before .before .own-limit .result ≡ 0 = zero-of (c .before .before .before .before .before .before .before .before .before .before .before .own-limit .result) (c .before .before .before .before .before .before .before .before .before .before .before .own-limit .ensures .1) (c .before .before .before .before .before .before .before .before .before .before .before .own-limit .ensures .2) (c .before .before .before .before .before .before .before .before .before .before .if5 .left) (c .before .before .before .before .before .before .before .before .before .if6 .left) in z)) (c .before .before .before .before .before .before .row-words .result) _ (c .place-after2 .result) (c .place-after2 .ensures ∙ ap (λ (x : ℕ). place-after x (c .before .before .before .before .before .before .before .before .before .before .before .before .before .before .before .before .before .before .before .before .before .before .before .before .args .place)) k ∙ ap (place-after (form-kind ((c .before .before .before .before .before .before .before .before .before .before .before .before .before .before .before .before .before .before .before .before .before .read-entry .result) .form))) (sym p)) (c .before .before .before .before .before .before .row-words .ensures) (subst (λ (x : ℕ). Appended (c .before .before .before .before .before .before .before .before .before .before .before .before .before .before .before .before .before .before .before .before .before .before .before .before .args .t .now) x (c .before .before .before .before .before .before .row-words .result) (c .before .before .before .append .last .0)) k (c .before .before .before .append .ensures)), c .before .before .before .append .ensures .long ∙ c .before .before .before .before .before .before .before .before .before .before .before .before .before .before .before .before .before .before .before .before .before .before .before .before .pre .0)
+returns-7 c = (
+  λ n q p held sound.
+      let low : (c .before .before .before .before .before .before .before .before .before .before .before .before .before .before .before .before .before .before .before .before .before .read-entry .result) .form < 86 = omega arith in
+      let vs : List ℕ = (c .before .before .before .before .before .before .before .before .before .before .before .before .before .before .before .before .before .before .before .before .before .read-entry .ensures) .one low .1 in
+      let m : may-stand (q .place) ((c .before .before .before .before .before .before .before .before .before .before .before .before .before .before .before .before .before .before .before .before .before .read-entry .result) .form) vs ≡ true =
+      ap (λ (x : ℕ). may-stand x ((c .before .before .before .before .before .before .before .before .before .before .before .before .before .before .before .before .before .before .before .before .before .read-entry .result) .form) vs) p ∙ sym (c .before .before .before .before .before .before .before .before .before .before .before .before .before .before .before .before .before .before .may-stand .ensures vs ((c .before .before .before .before .before .before .before .before .before .before .before .before .before .before .before .before .before .before .before .before .before .read-entry .ensures) .one low .4)) ∙ not-false (c .before .before .before .before .before .before .before .before .before .before .before .before .before .before .before .before .before .before .may-stand .result) (c .before .before .before .before .before .before .before .before .before .before .before .before .before .before .before .before .before .if2 .left) in
+      let k : c .before .before .before .before .before .before .before .before .before .before .before .before .before .before .before .before .kind-of .result ≡ form-kind ((c .before .before .before .before .before .before .before .before .before .before .before .before .before .before .before .before .before .before .before .before .before .read-entry .result) .form) = c .before .before .before .before .before .before .before .before .before .before .before .before .before .before .before .before .kind-of .ensures .0 in
+      let small : form-kind ((c .before .before .before .before .before .before .before .before .before .before .before .before .before .before .before .before .before .before .before .before .before .read-entry .result) .form) < 10 = omega (arith, c .before .before .before .before .before .before .before .before .before .before .before .before .before .before .before .before .kind-of .ensures .1, c .before .before .before .before .before .before .before .before .before .before .before .before .before .before .before .if3 .left) in
+      let room : getD (c .before .before .before .before .before .before .before .before .before .before .before .before .before .before .before .before .before .before .before .before .before .before .before .before .args .t .now) (form-kind ((c .before .before .before .before .before .before .before .before .before .before .before .before .before .before .before .before .before .before .before .before .before .read-entry .result) .form)) 0 < cap (form-kind ((c .before .before .before .before .before .before .before .before .before .before .before .before .before .before .before .before .before .before .before .before .before .read-entry .result) .form)) = subst (λ (x : ℕ). getD (c .before .before .before .before .before .before .before .before .before .before .before .before .before .before .before .before .before .before .before .before .before .before .before .before .args .t .now) x 0 < cap x) k (omega (arith, c .before .before .before .before .before .before .before .before .before .before .before .before .before .before .cap-of .ensures)) in
+      step-stored n q (c .before .before .before .before .before .before .before .before .before .before .before .before .before .before .before .before .before .before .before .before .before .before .before .before .args .s .now) (c .before .before .before .before .before .before .before .before .before .before .before .before .before .before .before .before .before .before .before .before .before .read-entry .result) (c .before .before .before .before .before .before .before .before .before .before .before .before .before .before .before .before .before .before .before .before .before .read-entry .ensures) low m (c .before .before .before .before .before .before .before .before .before .before .before .before .before .before .before .before .before .before .before .before .before .before .before .before .args .t .now) held sound small room (c .before .before .before .before .before .before .before .before .before .before .before .own-limit .ensures .0 vs ((c .before .before .before .before .before .before .before .before .before .before .before .before .before .before .before .before .before .before .before .before .before .read-entry .ensures) .one low .4) ∙ ap limit-of (let z : c .before .before .before .before .before .before .before .before .before .before .before .own-limit .result ≡ 0 = zero-of (c .before .before .before .before .before .before .before .before .before .before .before .own-limit .result) (c .before .before .before .before .before .before .before .before .before .before .before .own-limit .ensures .1) (c .before .before .before .before .before .before .before .before .before .before .before .own-limit .ensures .2) (c .before .before .before .before .before .before .before .before .before .before .if5 .left) (c .before .before .before .before .before .before .before .before .before .if6 .left) in z)) (c .before .before .before .before .before .before .row-words .result) _ (c .place-after2 .result) (c .place-after2 .ensures ∙ ap (λ (x : ℕ). place-after x (c .before .before .before .before .before .before .before .before .before .before .before .before .before .before .before .before .before .before .before .before .before .before .before .before .args .place)) k ∙ ap (place-after (form-kind ((c .before .before .before .before .before .before .before .before .before .before .before .before .before .before .before .before .before .before .before .before .before .read-entry .result) .form))) (sym p)) (c .before .before .before .before .before .before .row-words .ensures) (subst (λ (x : ℕ). Appended (c .before .before .before .before .before .before .before .before .before .before .before .before .before .before .before .before .before .before .before .before .before .before .before .before .args .t .now) x (c .before .before .before .before .before .before .row-words .result) (c .before .before .before .append .last .0)) k (c .before .before .before .append .ensures)),
+  c .before .before .before .append .ensures .long ∙ c .before .before .before .before .before .before .before .before .before .before .before .before .before .before .before .before .before .before .before .before .before .before .before .before .pre .0,
+)
 
 pub one-line-spec : {M : Type 1} → statement M
 one-line-spec =

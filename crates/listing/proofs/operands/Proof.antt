@@ -84,12 +84,13 @@ loop-less c = search needs
 
 -- src/lib.rt:509:5
 loop-again : tie.Need-loop-again Inv-loop μ-loop
-loop-again c =
-    (omega arith,
-    operand-read (c .before .before .before .before .before .before .before .before .before .before .args .row) (c .before .before .before .before .before .before .before .before .before .before .args .s .now) (c .before .before .before .before .before .before .before .before .before .before .args .at) (search needs) (c .before .before .before .before .before .before .before .before .loop .i) (c .before .before .before .before .before .before .before .before .loop .j) (c .before .before .before .before .before .before .before .before .loop .vals) (c .before .before .before .before .before .before .before .before .loop .inv .1) (λ e. c .before .before .before .before .before .if1 .left (c .before .before .before .before .before .before .maximum .ensures ∙ e))
-    (omega arith) (c .before .v .given .0 .0) (c .before .v .given .0 .1 .0)
-    (ap (result (c .before .before .before .before .before .before .before .before .before .before .args .s .now)) (sym (c .before .v .given .1)) ∙ c .before .before .before .number .ensures
-    ∙ ap (λ (x : ℕ). number-at (admitted x) (drop (c .before .before .before .before .before .before .before .before .loop .i) (c .before .before .before .before .before .before .before .before .before .before .args .s .now))) (c .before .before .before .before .maximum-code .ensures ∙ ap max-code (c .before .before .before .before .before .before .maximum .ensures))))
+loop-again c = (
+  omega arith,
+  operand-read (c .before .before .before .before .before .before .before .before .before .before .args .row) (c .before .before .before .before .before .before .before .before .before .before .args .s .now) (c .before .before .before .before .before .before .before .before .before .before .args .at) (search needs) (c .before .before .before .before .before .before .before .before .loop .i) (c .before .before .before .before .before .before .before .before .loop .j) (c .before .before .before .before .before .before .before .before .loop .vals) (c .before .before .before .before .before .before .before .before .loop .inv .1) (λ e. c .before .before .before .before .before .if1 .left (c .before .before .before .before .before .before .maximum .ensures ∙ e))
+      (omega arith) (c .before .v .given .0 .0) (c .before .v .given .0 .1 .0)
+      (ap (result (c .before .before .before .before .before .before .before .before .before .before .args .s .now)) (sym (c .before .v .given .1)) ∙ c .before .before .before .number .ensures
+      ∙ ap (λ (x : ℕ). number-at (admitted x) (drop (c .before .before .before .before .before .before .before .before .loop .i) (c .before .before .before .before .before .before .before .before .before .before .args .s .now))) (c .before .before .before .before .maximum-code .ensures ∙ ap max-code (c .before .before .before .before .before .before .maximum .ensures))),
+)
 
 -- src/lib.rt:522:5
 full-row-requires : tie.Need-full-row-requires Inv-loop μ-loop
