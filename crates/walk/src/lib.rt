@@ -771,7 +771,7 @@ fn passes_at(
 }
 
 // The last pass over the body of the loop at ip: each local that it writes is forgotten before it.
-fn last_pass(
+pub fn last_pass(
     t: &[u64],
     heights: &mut [u8],
     blinds: &mut [u8],
@@ -809,7 +809,7 @@ fn start_local(t: &[u64], x: Ctx, i: usize, s: State) -> State
 }
 
 // The state in which the walk of a chunk begins.
-fn start_state(t: &[u64], x: Ctx) -> State
+pub fn start_state(t: &[u64], x: Ctx) -> State
     requires { ⌜ x .locals ≤ 32 ⌝ }
     ensures { λ r. ⌜ (r .height ≡ 0) × (stateOf (x .locals) r ≡ record { stack = []; locals = start-locals (x .locals) (params (chunkIn (now (t .entry)) x)) }) ⌝ }
 {
