@@ -1,0 +1,136 @@
+// The answer of the check: acceptance, or one of document 01's refusals with its values.
+ghost use mathlib.Core.Path.{_≡_};
+ghost use mathlib.Core.List.{_∷_, []};
+ghost use Rattle.answer.specs.Answer.{numbers, answerOf};
+ghost use Rattle.answer.specs.Numbers.{values-of, row-of};
+
+// In the order of their numbers, 1 to 19, with the Rust's fields, after the chunk where there is one.
+pub enum Refusal {
+    // 1: lines before the one that cannot follow
+    CannotFollow(u64),
+    // 2: chunk, ip, limit
+    LimitPassed(u64, u64, u64),
+    // 3: chunk, ip
+    NotNested(u64, u64),
+    // 4: instructions, the shorter length
+    SheetTooShort(u64, u64),
+    // 5: chunk, ip
+    StackUnderflow(u64, u64),
+    // 6: chunk, ip, offset, need, size
+    OffsetOutOfBounds(u64, u64, u64, u64, u64),
+    // 7: chunk, ip
+    ExpectedComposite(u64, u64),
+    // 8: chunk, ip, baked, computed
+    NewCompositeSizeMismatch(u64, u64, u64, u64),
+    // 9: chunk, ip, offset
+    TextFieldMismatch(u64, u64, u64),
+    // 10: chunk, ip, then_height, else_height
+    BranchHeightMismatch(u64, u64, u64, u64),
+    // 11: chunk, ip, entry_height, exit_height
+    LoopNotNeutral(u64, u64, u64, u64),
+    // 12: chunk, ip, floor, available, required
+    LoopFloorBreach(u64, u64, u64, u64, u64),
+    // 13: chunk, ip, slot
+    LocalTypeMismatch(u64, u64, u64),
+    // 14: chunk, ip, callee, arg
+    CallArgMismatch(u64, u64, u64, u64),
+    // 15: chunk, ip, element_size, array_size
+    ArrayStrideMismatch(u64, u64, u64, u64),
+    // 16: slot, offset, size, buffer
+    SharedSlotOutOfBounds(u64, u64, u64, u64),
+    // 17: chunk, ip, baked
+    EnumBodySizeMismatch(u64, u64, u64),
+    // 18: index, slot, reason
+    PrivateCompositeLayoutInvalid(u64, u64, u64),
+    // 19: shared_slots, layout_len, reason
+    SharedLayoutCountMismatch(u64, u64, u64),
+}
+
+// Acceptance with the number of chunks and of all instructions, or one refusal.
+pub enum Answer {
+    Accepted(u64, u64),
+    Refused(Refusal),
+}
+
+// An answer's numbers: as many as count says, and zeros after them.
+pub struct Numbers {
+    pub count: usize,
+    pub words: [u64; 8],
+}
+
+fn three(a: u64, b: u64, c: u64) -> Numbers
+    ensures { λ r. ⌜ r ≡ row-of (a ∷ b ∷ c ∷ []) ⌝ }
+{
+    Numbers {
+        count: 3,
+        words: [a, b, c, 0, 0, 0, 0, 0],
+    }
+}
+
+fn four(a: u64, b: u64, c: u64, d: u64) -> Numbers
+    ensures { λ r. ⌜ r ≡ row-of (a ∷ b ∷ c ∷ d ∷ []) ⌝ }
+{
+    Numbers {
+        count: 4,
+        words: [a, b, c, d, 0, 0, 0, 0],
+    }
+}
+
+fn five(a: u64, b: u64, c: u64, d: u64, e: u64) -> Numbers
+    ensures { λ r. ⌜ r ≡ row-of (a ∷ b ∷ c ∷ d ∷ e ∷ []) ⌝ }
+{
+    Numbers {
+        count: 5,
+        words: [a, b, c, d, e, 0, 0, 0],
+    }
+}
+
+fn six(a: u64, b: u64, c: u64, d: u64, e: u64, f: u64) -> Numbers
+    ensures { λ r. ⌜ r ≡ row-of (a ∷ b ∷ c ∷ d ∷ e ∷ f ∷ []) ⌝ }
+{
+    Numbers {
+        count: 6,
+        words: [a, b, c, d, e, f, 0, 0],
+    }
+}
+
+impl Refusal {
+    // Its number, its chunk and its values.
+    pub fn numbers(self) -> Numbers
+        ensures { λ r. ⌜ r ≡ row-of (numbers self) ⌝ }
+    {
+        match self {
+            Refusal::CannotFollow(n) => three(1, 0, n),
+            Refusal::LimitPassed(k, p, l) => four(2, k, p, l),
+            Refusal::NotNested(k, p) => three(3, k, p),
+            Refusal::SheetTooShort(n, l) => four(4, 0, n, l),
+            Refusal::StackUnderflow(k, p) => three(5, k, p),
+            Refusal::OffsetOutOfBounds(k, p, o, n, s) => six(6, k, p, o, n, s),
+            Refusal::ExpectedComposite(k, p) => three(7, k, p),
+            Refusal::NewCompositeSizeMismatch(k, p, b, c) => five(8, k, p, b, c),
+            Refusal::TextFieldMismatch(k, p, o) => four(9, k, p, o),
+            Refusal::BranchHeightMismatch(k, p, t, e) => five(10, k, p, t, e),
+            Refusal::LoopNotNeutral(k, p, e, x) => five(11, k, p, e, x),
+            Refusal::LoopFloorBreach(k, p, f, a, r) => six(12, k, p, f, a, r),
+            Refusal::LocalTypeMismatch(k, p, s) => four(13, k, p, s),
+            Refusal::CallArgMismatch(k, p, c, a) => five(14, k, p, c, a),
+            Refusal::ArrayStrideMismatch(k, p, e, a) => five(15, k, p, e, a),
+            Refusal::SharedSlotOutOfBounds(s, o, n, b) => six(16, 0, s, o, n, b),
+            Refusal::EnumBodySizeMismatch(k, p, b) => four(17, k, p, b),
+            Refusal::PrivateCompositeLayoutInvalid(i, s, r) => five(18, 0, i, s, r),
+            Refusal::SharedLayoutCountMismatch(s, n, r) => five(19, 0, s, n, r),
+        }
+    }
+}
+
+impl Answer {
+    // 0, chunks and instructions for acceptance, or the refusal's numbers.
+    pub fn numbers(self) -> Numbers
+        ensures { λ r. ⌜ r ≡ row-of (values-of (answerOf self)) ⌝ }
+    {
+        match self {
+            Answer::Accepted(chunks, instructions) => three(0, chunks, instructions),
+            Answer::Refused(r) => r.numbers(),
+        }
+    }
+}
