@@ -1,0 +1,3 @@
+pub mod Laws
+pub mod Module
+pub mod Whole
