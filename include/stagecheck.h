@@ -28,10 +28,10 @@ extern "C" {
  * to 3, and for 4, 16, 18 and 19. The further words, in this order:
  *
  *   number, name                       word 2         word 3         word 4         word 5
- *    1 Line                            lines
- *    2 Limit                           ip             limit
- *    3 Nesting                         ip
- *    4 TooShort                        instructions   length
+ *    1 CannotFollow                    lines
+ *    2 LimitPassed                     ip             limit
+ *    3 NotNested                       ip
+ *    4 SheetTooShort                   instructions   length
  *    5 StackUnderflow                  ip
  *    6 OffsetOutOfBounds               ip             offset         need           size
  *    7 ExpectedComposite               ip
@@ -52,7 +52,7 @@ enum stagecheck_number {
     /* Accepted. Word 1: how many chunks. Word 2: how many instructions, of all chunks. */
     STAGECHECK_ACCEPTED = 0,
     /* A line cannot follow, or the end is missing. lines: how many lines stand before it. */
-    STAGECHECK_LINE = 1,
+    STAGECHECK_CANNOT_FOLLOW = 1,
     /* A limit is passed. ip: the instruction in its chunk, 0 for limits 1 to 3. limit:
      *   1  the listing has more than 65,536 bytes
      *   2  a table is overfull: 256 each of slots, shared and private entries; 64 each of enums, natives, signatures
@@ -62,11 +62,11 @@ enum stagecheck_number {
      *   5  there are more than 64 operands after the instruction
      *   6  a new composite has more than 16 known text places
      */
-    STAGECHECK_LIMIT = 2,
+    STAGECHECK_LIMIT_PASSED = 2,
     /* The first instruction that breaks a rule of nesting. */
-    STAGECHECK_NESTING = 3,
+    STAGECHECK_NOT_NESTED = 3,
     /* A sheet has fewer entries than the listing has instructions. length: that of the shorter sheet. */
-    STAGECHECK_TOO_SHORT = 4,
+    STAGECHECK_SHEET_TOO_SHORT = 4,
     /* The instruction needs more operands than there are. */
     STAGECHECK_STACK_UNDERFLOW = 5,
     /* A flat read from offset on ends at byte `need` of a composite of `size` bytes. */
