@@ -22,6 +22,18 @@ pub enum Answer {
     BeyondCodes,
 }
 
+impl Answer {
+    /// The words that a checker gives for it: 0, chunks and instructions, or the refusal's numbers. None where the
+    /// listing is left out.
+    pub fn words(&self) -> Option<Vec<u64>> {
+        match self {
+            Answer::Accepted { chunks, instructions } => Some(vec![0, *chunks as u64, *instructions as u64]),
+            Answer::Refused(refusal) => Some(refusal.words()),
+            Answer::BeyondLimit(_) | Answer::BeyondCodes => None,
+        }
+    }
+}
+
 impl fmt::Display for Answer {
     fn fmt(&self, out: &mut fmt::Formatter) -> fmt::Result {
         match self {

@@ -24,6 +24,7 @@ pub mod refusal;
 
 // The answers.
 pub mod answer;
+pub mod compare;
 pub mod frame;
 pub mod layout;
 pub mod limits;

@@ -30,6 +30,20 @@ impl Refusal {
     pub fn reason(&self) -> Option<u64> {
         matches!(self.number, 18 | 19).then(|| self.fields[2])
     }
+
+    /// All numbers, in the order in which they are printed.
+    pub fn words(&self) -> Vec<u64> {
+        [u64::from(self.number), self.chunk as u64].into_iter().chain(self.fields.iter().copied()).collect()
+    }
+
+    /// What it is counted as: its number, with the limit or the reason where it has one.
+    pub fn kind(&self) -> String {
+        match (self.passed_limit(), self.reason()) {
+            (Some(limit), _) => format!("refused  2, limit {limit}"),
+            (_, Some(reason)) => format!("refused {}, reason {reason}", self.number),
+            _ => format!("refused {:2}", self.number),
+        }
+    }
 }
 
 impl fmt::Display for Refusal {

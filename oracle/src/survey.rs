@@ -82,12 +82,7 @@ impl Survey {
     }
 
     fn count_refusal(&mut self, refusal: &Refusal) {
-        let key = match (refusal.passed_limit(), refusal.reason()) {
-            (Some(limit), _) => format!("refused  2, limit {limit}"),
-            (_, Some(reason)) => format!("refused {}, reason {reason}", refusal.number),
-            _ => format!("refused {:2}", refusal.number),
-        };
-        count(&mut self.answers, &key);
+        count(&mut self.answers, &refusal.kind());
     }
 
     fn count_ops(&mut self, listing: &Listing) {
@@ -166,7 +161,7 @@ impl Survey {
     }
 }
 
-fn count(counts: &mut BTreeMap<String, u64>, key: &str) {
+pub fn count(counts: &mut BTreeMap<String, u64>, key: &str) {
     match counts.get_mut(key) {
         Some(times) => *times += 1,
         None => {
@@ -176,14 +171,20 @@ fn count(counts: &mut BTreeMap<String, u64>, key: &str) {
 }
 
 fn wanted_answers(size: Size) -> Vec<String> {
+    let mut wanted = answers_compared(size);
+    wanted.extend(["left out: limit 5", "left out: limit 6", "left out: other trap codes"].map(String::from));
+    wanted
+}
+
+/// The answers that the original shares, and those of reading and nesting.
+pub fn answers_compared(size: Size) -> Vec<String> {
     let mut wanted: Vec<String> = [1, 3].into_iter().chain(5..=17).map(|n| format!("refused {n:2}")).collect();
     // A small listing has not the bytes for limit 1.
     let first_limit = if size == Size::Small { 2 } else { 1 };
     wanted.extend((first_limit..=4).map(|limit| format!("refused  2, limit {limit}")));
     wanted.extend((1..=4).map(|reason| format!("refused 18, reason {reason}")));
     wanted.extend((1..=2).map(|reason| format!("refused 19, reason {reason}")));
-    wanted
-        .extend(["accepted", "left out: limit 5", "left out: limit 6", "left out: other trap codes"].map(String::from));
+    wanted.push("accepted".to_string());
     wanted
 }
 

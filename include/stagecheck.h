@@ -1,0 +1,143 @@
+/* The typed check of Keleusma modules, for programs in C and C++: link target/staticlib/libstagecheck_c.a.
+ *
+ * One call decides a listing. It allocates nothing, reads and writes nothing but what is lent, keeps nothing between
+ * calls, and ends for every input. Calls from several threads are free of each other where what they lend is.
+ * What the answer and the sheets are for each listing is proved (docs/PROMISES.md); what follows here in words is
+ * document 01's. Stack: see README.md, "Memory and stack"; allow 4 MiB.
+ */
+#ifndef STAGECHECK_H
+#define STAGECHECK_H
+
+#include <stddef.h>
+#include <stdint.h>
+
+#ifdef __cplusplus
+extern "C" {
+#endif
+
+/* The words of an answer. */
+#define STAGECHECK_ANSWER_WORDS 8
+/* The most bytes of a listing; a longer one is refused with 2, limit 1. */
+#define STAGECHECK_MOST_BYTES 65536
+/* The most instructions of a listing: sheets of so many entries are never too short. */
+#define STAGECHECK_MOST_INSTRUCTIONS 4096
+
+/* Word 0 of an answer. 5 to 19 bear the names of the Rust's errors.
+ *
+ * Word 1 of a refusal is the chunk, counted from 0; it is 0 where no chunk is at fault: for 1, for 2 with limits 1
+ * to 3, and for 4, 16, 18 and 19. The further words, in this order:
+ *
+ *   number, name                       word 2         word 3         word 4         word 5
+ *    1 CannotFollow                    lines
+ *    2 LimitPassed                     ip             limit
+ *    3 NotNested                       ip
+ *    4 SheetTooShort                   instructions   length
+ *    5 StackUnderflow                  ip
+ *    6 OffsetOutOfBounds               ip             offset         need           size
+ *    7 ExpectedComposite               ip
+ *    8 NewCompositeSizeMismatch        ip             baked          computed
+ *    9 TextFieldMismatch               ip             offset
+ *   10 BranchHeightMismatch            ip             then_height    else_height
+ *   11 LoopNotNeutral                  ip             entry_height   exit_height
+ *   12 LoopFloorBreach                 ip             floor          available      required
+ *   13 LocalTypeMismatch               ip             slot
+ *   14 CallArgMismatch                 ip             callee         arg
+ *   15 ArrayStrideMismatch             ip             element_size   array_size
+ *   16 SharedSlotOutOfBounds           slot           offset         size           buffer
+ *   17 EnumBodySizeMismatch            ip             baked
+ *   18 PrivateCompositeLayoutInvalid   index          slot           reason
+ *   19 SharedLayoutCountMismatch       shared_slots   layout_len     reason
+ */
+enum stagecheck_number {
+    /* Accepted. Word 1: how many chunks. Word 2: how many instructions, of all chunks. */
+    STAGECHECK_ACCEPTED = 0,
+    /* A line cannot follow, or the end is missing. lines: how many lines stand before it. */
+    STAGECHECK_CANNOT_FOLLOW = 1,
+    /* A limit is passed. ip: the instruction in its chunk, 0 for limits 1 to 3. limit:
+     *   1  the listing has more than 65,536 bytes
+     *   2  a table is overfull: 256 each of slots, shared and private entries; 64 each of enums, natives, signatures
+     *      and chunks; 16 parameters of a signature; 1,024 constants and 4,096 instructions in all
+     *   3  a chunk has more than 32 locals
+     *   4  more than 8 blocks are open at once
+     *   5  there are more than 64 operands after the instruction
+     *   6  a new composite has more than 16 known text places
+     */
+    STAGECHECK_LIMIT_PASSED = 2,
+    /* The first instruction that breaks a rule of nesting. */
+    STAGECHECK_NOT_NESTED = 3,
+    /* A sheet has fewer entries than the listing has instructions. length: that of the shorter sheet. */
+    STAGECHECK_SHEET_TOO_SHORT = 4,
+    /* The instruction needs more operands than there are. */
+    STAGECHECK_STACK_UNDERFLOW = 5,
+    /* A flat read from offset on ends at byte `need` of a composite of `size` bytes. */
+    STAGECHECK_OFFSET_OUT_OF_BOUNDS = 6,
+    /* A flat read, or a flat index, of a scalar. */
+    STAGECHECK_EXPECTED_COMPOSITE = 7,
+    /* A new composite says `baked` bytes; its operands have `computed`. */
+    STAGECHECK_NEW_COMPOSITE_SIZE_MISMATCH = 8,
+    /* A text is read at an offset where the composite has none. */
+    STAGECHECK_TEXT_FIELD_MISMATCH = 9,
+    /* Arms of an If, or breaks of a loop, leave different heights. ip: the If or the Loop. */
+    STAGECHECK_BRANCH_HEIGHT_MISMATCH = 10,
+    /* A loop's body does not end at the height at which it began. ip: the Loop. */
+    STAGECHECK_LOOP_NOT_NEUTRAL = 11,
+    /* In a loop that was entered at height `floor`, an instruction that takes `required` operands finds `available`:
+     * it would take some from below the floor. */
+    STAGECHECK_LOOP_FLOOR_BREACH = 12,
+    /* A value of another shape is stored to a parameter. slot: the local. */
+    STAGECHECK_LOCAL_TYPE_MISMATCH = 13,
+    /* A call passes a value of another shape than declared. callee: the signature; arg: the argument, from 0. */
+    STAGECHECK_CALL_ARG_MISMATCH = 14,
+    /* Elements of `element_size` bytes do not divide an array of `array_size`. */
+    STAGECHECK_ARRAY_STRIDE_MISMATCH = 15,
+    /* A shared entry ends past the shared bytes. slot: the entry; buffer: the shared bytes. size is 0 where KIND is no
+     * scalar and no composite. */
+    STAGECHECK_SHARED_SLOT_OUT_OF_BOUNDS = 16,
+    /* A new enum says `baked` bytes, which no enum line allows. */
+    STAGECHECK_ENUM_BODY_SIZE_MISMATCH = 17,
+    /* A private entry is wrong. index: the entry; slot: the slot that it names. reason:
+     *   1  there is no such slot
+     *   2  the offset is outside the pool
+     *   3  the slot is not above that of the entry before
+     *   4  the offset is not above that of the entry before
+     */
+    STAGECHECK_PRIVATE_COMPOSITE_LAYOUT_INVALID = 18,
+    /* shared_slots: how many slots are shared; layout_len: how many shared entries there are. reason:
+     *   1  the shared slots do not come first
+     *   2  the two numbers differ
+     */
+    STAGECHECK_SHARED_LAYOUT_COUNT_MISMATCH = 19
+};
+
+/* Checks a listing.
+ *
+ * listing, listing_length    the listing's bytes; only read.
+ * heights, heights_length    the height sheet, an entry for each instruction, in listing order over all chunks.
+ *                            Whatever it holds is overwritten. Accepted: 1 + the number of operands before the
+ *                            instruction, or 0 where the walk does not examine it (Else, EndIf and EndLoop are never
+ *                            examined); 0 past the last instruction. Refused: all 0.
+ * blinds, blinds_length      the blind sheet, likewise. Accepted: 1 where a flat read or a flat index met an operand of
+ *                            unknown shape, else 0. Refused: all 0.
+ * answer                     room for STAGECHECK_ANSWER_WORDS words, all of them written. Words that the answer does
+ *                            not have are 0.
+ *
+ * Returns how many words the answer has: 3 for an acceptance, 3 to 6 for a refusal.
+ *
+ * The caller sees to it that
+ *   - no pointer is null, not even with length 0: an empty listing or sheet has any other pointer, as that of a local
+ *     variable, and nothing is read or written through it;
+ *   - each pointer is good for its length, and `answer` is aligned as uint64_t is and good for 8 words;
+ *   - neither sheet, nor `answer`, overlaps anything else that is lent, and nobody else writes to what is lent, or
+ *     reads the sheets or the answer, before the call returns.
+ * Sheets may have any length, unequal ones too; one that is too short is refusal 4.
+ */
+size_t stagecheck_check(const uint8_t *listing, size_t listing_length,
+                        uint8_t *heights, size_t heights_length,
+                        uint8_t *blinds, size_t blinds_length,
+                        uint64_t *answer);
+
+#ifdef __cplusplus
+}
+#endif
+
+#endif

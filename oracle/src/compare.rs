@@ -1,0 +1,330 @@
+//! Compares a checker with the original, and with the walk of `limits` and its sheets, on generated listings.
+
+use crate::answer;
+use crate::frame;
+use crate::generator::{self, Size};
+use crate::limits::{Mark, Notes};
+use crate::listing::{self, MAX_OPS};
+use crate::random::Random;
+use crate::refusal::Refusal;
+use crate::survey::{self, FULL_COUNT};
+use crate::{nesting, whole};
+use std::collections::BTreeMap;
+use std::fmt;
+
+/// The words of an answer: 0, chunks and instructions, or a refusal's numbers; the rest are 0.
+pub const ANSWER_WORDS: usize = 8;
+
+/// A checker: the listing, the height sheet, the blind sheet, the answer. It gives how many words the answer has.
+pub type Check<'a> = &'a dyn Fn(&[u8], &mut [u8], &mut [u8], &mut [u64; ANSWER_WORDS]) -> usize;
+
+// ── One call ─────────────────────────────────────────────────────────────────────────────
+
+/// What a call must give. Past these entries a sheet is 0.
+struct Expected {
+    words: Vec<u64>,
+    heights: Vec<u8>,
+    blinds: Vec<u8>,
+}
+
+impl Expected {
+    fn refused(refusal: &Refusal) -> Expected {
+        Expected { words: refusal.words(), heights: Vec::new(), blinds: Vec::new() }
+    }
+
+    fn accepted(marks: &[Vec<Mark>]) -> Expected {
+        let all: Vec<&Mark> = marks.iter().flatten().collect();
+        Expected {
+            words: vec![0, marks.len() as u64, all.len() as u64],
+            heights: all.iter().map(|mark| mark.height.map_or(0, |height| height as u8 + 1)).collect(),
+            blinds: all.iter().map(|mark| u8::from(mark.blind)).collect(),
+        }
+    }
+}
+
+/// A sheet to lend, with bytes after it that are not lent. All are full of what is not 0.
+struct Sheet {
+    name: &'static str,
+    length: usize,
+    first: usize,
+    bytes: Vec<u8>,
+}
+
+impl Sheet {
+    /// The bytes after a sheet.
+    const PAST: usize = 16;
+
+    fn new(name: &'static str, length: usize, random: &mut Random) -> Sheet {
+        let first = random.below(255);
+        let bytes = (0..length + Sheet::PAST).map(|at| Sheet::rubbish(first, at)).collect();
+        Sheet { name, length, first, bytes }
+    }
+
+    fn rubbish(first: usize, at: usize) -> u8 {
+        ((first + at) % 255) as u8 + 1
+    }
+
+    fn lent(&mut self) -> &mut [u8] {
+        &mut self.bytes[..self.length]
+    }
+
+    /// The first byte that is not as it must be.
+    fn fault(&self, expected: &[u8]) -> Option<String> {
+        let wanted = |at| match expected.get(at) {
+            Some(entry) => *entry,
+            None if at < self.length => 0,
+            None => Sheet::rubbish(self.first, at),
+        };
+        let at = (0..self.bytes.len()).find(|at| self.bytes[*at] != wanted(*at))?;
+        let Sheet { name, length, .. } = self;
+        Some(format!("leaves {} and not {} at {at} of the {name} sheet of {length}", self.bytes[at], wanted(at)))
+    }
+}
+
+/// Calls the checker with sheets of these lengths. Gives the words of its answer, and how the call differs from what
+/// is expected.
+fn call(
+    check: Check,
+    bytes: &[u8],
+    lengths: (usize, usize),
+    expected: &Expected,
+    random: &mut Random,
+) -> (Vec<u64>, Vec<String>) {
+    let mut heights = Sheet::new("height", lengths.0, random);
+    let mut blinds = Sheet::new("blind", lengths.1, random);
+    let mut answer = [u64::MAX; ANSWER_WORDS];
+    let count = check(bytes, heights.lent(), blinds.lent(), &mut answer).min(ANSWER_WORDS);
+    let (words, rest) = answer.split_at(count);
+    let mut faults = Vec::new();
+    if words != expected.words || rest.iter().any(|word| *word != 0) {
+        faults.push(format!("answers {words:?}, then {rest:?}, and not {:?}", expected.words));
+    }
+    faults.extend(heights.fault(&expected.heights));
+    faults.extend(blinds.fault(&expected.blinds));
+    (words.to_vec(), faults)
+}
+
+/// Lengths of two sheets that have room for so many instructions: exact, longer, the most, and unequal ones.
+fn lengths_with_room(random: &mut Random, instructions: usize) -> (usize, usize) {
+    let longer = instructions + random.between(1, 40);
+    match random.below(6) {
+        0 => (instructions, instructions),
+        1 => (instructions, longer),
+        2 => (longer, instructions),
+        3 => (longer, longer + random.below(3)),
+        4 => (MAX_OPS, MAX_OPS),
+        _ => (MAX_OPS + random.below(3), instructions),
+    }
+}
+
+/// Lengths of two sheets of which one at least is too short, and what must come of them.
+fn too_short(random: &mut Random, instructions: usize) -> ((usize, usize), Expected) {
+    let below = random.below(instructions);
+    let short = random.pick(&[0, instructions - 1, below]);
+    let other = random.pick(&[0, below, instructions, instructions + 7, MAX_OPS]);
+    let lengths = if random.chance(50) { (short, other) } else { (other, short) };
+    let fields = vec![instructions as u64, short.min(other) as u64];
+    (lengths, Expected::refused(&Refusal { number: 4, chunk: 0, fields }))
+}
+
+// ── Many listings ────────────────────────────────────────────────────────────────────────
+
+/// How many were compared, and how many of them agreed.
+#[derive(Default)]
+struct Tally {
+    compared: u64,
+    agreeing: u64,
+}
+
+impl Tally {
+    fn add(&mut self, agrees: bool) {
+        self.compared += 1;
+        self.agreeing += u64::from(agrees);
+    }
+}
+
+impl fmt::Display for Tally {
+    fn fmt(&self, out: &mut fmt::Formatter) -> fmt::Result {
+        write!(out, "{} compared, {} agreeing", self.compared, self.agreeing)
+    }
+}
+
+#[derive(Default)]
+pub struct Comparison {
+    listings: u64,
+    with_original: Tally,
+    with_second_walk: Tally,
+    too_short: Tally,
+    /// Why a listing was not compared with the original.
+    left_out: BTreeMap<String, u64>,
+    answers: BTreeMap<String, u64>,
+    /// Every disagreement, with its listing as a frame.
+    pub disagreements: Vec<Vec<u8>>,
+}
+
+/// Compares a checker on listings 0 to `count` - 1 of a seed.
+pub fn compare(check: Check, seed: u64, count: u64, size: Size) -> Comparison {
+    let mut comparison = Comparison::default();
+    for number in 0..count {
+        comparison.add(check, seed, number, &generator::listing(seed, number, size));
+    }
+    comparison
+}
+
+impl Comparison {
+    fn add(&mut self, check: Check, seed: u64, number: u64, bytes: &[u8]) {
+        // Other numbers than those that the listing was made from.
+        let mut random = Random::new(!seed, number);
+        self.listings += 1;
+        let read = listing::read(bytes);
+        // A listing that is not read is refused with sheets of any length.
+        let instructions = read.as_ref().map_or(0, |listing| listing.ops().count());
+        let nested = read.as_ref().map_err(Clone::clone).and_then(|listing| nesting::check(listing).map(|()| listing));
+        let expected =
+            self.expected(nested.clone().and_then(|listing| whole::check_nested(listing, &mut Notes::default())));
+        let lengths = lengths_with_room(&mut random, instructions);
+        let (words, mut faults) = call(check, bytes, lengths, &expected, &mut random);
+        self.with_second_walk.add(faults.is_empty());
+        match nested.map(answer::answer_nested) {
+            Ok(original) => match original.words() {
+                Some(of_original) => {
+                    self.with_original.add(words == of_original);
+                    if words != of_original {
+                        faults.push(format!("answers {words:?}, where the original answers {of_original:?}"));
+                    }
+                }
+                None => survey::count(&mut self.left_out, &original.to_string()),
+            },
+            Err(_) => survey::count(&mut self.left_out, "refused in reading or nesting"),
+        }
+        if instructions > 0 && random.chance(25) {
+            let (lengths, expected) = too_short(&mut random, instructions);
+            survey::count(&mut self.answers, "refused  4");
+            let (_, short_faults) = call(check, bytes, lengths, &expected, &mut random);
+            self.too_short.add(short_faults.is_empty());
+            faults.extend(short_faults);
+        }
+        if !faults.is_empty() {
+            self.disagreements.push(disagreement(number, &faults, bytes));
+        }
+    }
+
+    /// What a call with room in both sheets must give, by the second walk.
+    fn expected(&mut self, walked: Result<Vec<Vec<Mark>>, Refusal>) -> Expected {
+        match walked {
+            Ok(marks) => {
+                survey::count(&mut self.answers, "accepted");
+                Expected::accepted(&marks)
+            }
+            Err(refusal) => {
+                survey::count(&mut self.answers, &refusal.kind());
+                Expected::refused(&refusal)
+            }
+        }
+    }
+
+    /// The answers that so many listings must reach and did not.
+    pub fn missing(&self, size: Size) -> Vec<String> {
+        if self.listings < FULL_COUNT {
+            return Vec::new();
+        }
+        let mut wanted = survey::answers_compared(size);
+        wanted.extend(["refused  4", "refused  2, limit 5", "refused  2, limit 6"].map(String::from));
+        wanted.retain(|answer| !self.answers.contains_key(answer));
+        wanted
+    }
+
+    /// All counts, as text.
+    pub fn report(&self) -> String {
+        let mut out = format!("listings {}\n", self.listings);
+        out.push_str(&format!("answer, with the original: {}\n", self.with_original));
+        out.push_str(&format!("answer and both sheets, with the second walk: {}\n", self.with_second_walk));
+        out.push_str(&format!("refusal 4, with a sheet too short: {}\n", self.too_short));
+        let mut table = |title: &str, counts: &BTreeMap<String, u64>| {
+            out.push_str(&format!("{title}\n"));
+            counts.iter().for_each(|(key, times)| out.push_str(&format!("{times:9}  {key}\n")));
+        };
+        table("not compared with the original", &self.left_out);
+        table("answers", &self.answers);
+        out
+    }
+}
+
+/// What differs, line by line, then the listing as a frame.
+fn disagreement(number: u64, faults: &[String], bytes: &[u8]) -> Vec<u8> {
+    let mut out = Vec::new();
+    for fault in faults {
+        out.extend(format!("listing {number}: the checker {fault}\n").bytes());
+    }
+    frame::write(&mut out, "listing", number, bytes).expect("a vector takes all bytes");
+    out
+}
+
+#[cfg(test)]
+mod tests {
+    use super::*;
+
+    type Call<'a> = (&'a [u8], &'a mut [u8], &'a mut [u8], &'a mut [u64; ANSWER_WORDS]);
+
+    /// The second walk as a checker: one that is right.
+    fn right((bytes, heights, blinds, answer): Call) -> usize {
+        let expected = listing::read(bytes).and_then(|listing| {
+            let instructions = listing.ops().count() as u64;
+            let length = heights.len().min(blinds.len()) as u64;
+            if length < instructions {
+                return Err(Refusal { number: 4, chunk: 0, fields: vec![instructions, length] });
+            }
+            nesting::check(&listing)?;
+            whole::check_nested(&listing, &mut Notes::default())
+        });
+        let expected = expected.map_or_else(|refusal| Expected::refused(&refusal), |marks| Expected::accepted(&marks));
+        heights.fill(0);
+        blinds.fill(0);
+        answer.fill(0);
+        heights[..expected.heights.len()].copy_from_slice(&expected.heights);
+        blinds[..expected.blinds.len()].copy_from_slice(&expected.blinds);
+        answer[..expected.words.len()].copy_from_slice(&expected.words);
+        expected.words.len()
+    }
+
+    /// How many of 2,000 listings a checker differs on that is right but for a change after its call.
+    fn disagreements(spoil: fn(Call, &mut usize)) -> usize {
+        let check = |bytes: &[u8], heights: &mut [u8], blinds: &mut [u8], answer: &mut [u64; ANSWER_WORDS]| {
+            let mut count = right((bytes, &mut *heights, &mut *blinds, &mut *answer));
+            spoil((bytes, heights, blinds, answer), &mut count);
+            count
+        };
+        compare(&check, 1, 2_000, Size::Any).disagreements.len()
+    }
+
+    #[test]
+    fn a_right_checker_agrees() {
+        assert_eq!(disagreements(|_, _| ()), 0);
+    }
+
+    /// Each is found on some listing.
+    #[test]
+    fn wrong_checkers_disagree() {
+        let wrong: [(&str, fn(Call, &mut usize)); 11] = [
+            ("accepts all", |(_, _, _, answer), _| answer[0] = 0),
+            ("another number", |(_, _, _, answer), _| answer[0] += u64::from(answer[0] == 17)),
+            ("no chunk", |(_, _, _, answer), _| answer[1] *= u64::from(answer[0] == 0)),
+            ("another last field", |(_, _, _, answer), count| answer[*count - 1] += u64::from(answer[0] == 6)),
+            ("a word too few", |(_, _, _, answer), count| *count -= usize::from(answer[0] == 12)),
+            ("a word that is not 0 at the end", |(_, _, _, answer), _| answer[7] = 1),
+            ("a length of 4", |(_, _, _, answer), _| answer[3] += u64::from(answer[0] == 4)),
+            ("a height", |(_, heights, _, _), _| heights.iter_mut().for_each(|entry| *entry += u8::from(*entry == 9))),
+            ("no mark", |(_, _, blinds, _), _| blinds.fill(0)),
+            ("an entry past the end", |(_, heights, _, answer), _| {
+                let end = if answer[0] == 0 { answer[2] as usize } else { heights.len() };
+                heights[end..].fill(1);
+            }),
+            ("a sheet that a refusal leaves", |(_, _, blinds, answer), _| {
+                blinds.iter_mut().for_each(|entry| *entry = (*entry).max(u8::from(answer[0] > 0)));
+            }),
+        ];
+        for (what, spoil) in wrong {
+            assert!(disagreements(spoil) > 0, "{what} is not found");
+        }
+    }
+}
