@@ -21,10 +21,10 @@ pub type Check<'a> = &'a dyn Fn(&[u8], &mut [u8], &mut [u8], &mut [u64; ANSWER_W
 // ── One call ─────────────────────────────────────────────────────────────────────────────
 
 /// What a call must give. Past these entries a sheet is 0.
-struct Expected {
-    words: Vec<u64>,
-    heights: Vec<u8>,
-    blinds: Vec<u8>,
+pub struct Expected {
+    pub words: Vec<u64>,
+    pub heights: Vec<u8>,
+    pub blinds: Vec<u8>,
 }
 
 impl Expected {
@@ -39,6 +39,17 @@ impl Expected {
             heights: all.iter().map(|mark| mark.height.map_or(0, |height| height as u8 + 1)).collect(),
             blinds: all.iter().map(|mark| u8::from(mark.blind)).collect(),
         }
+    }
+
+    /// What the second walk gives, where both sheets have room.
+    pub fn of(walked: &Result<Vec<Vec<Mark>>, Refusal>) -> Expected {
+        walked.as_ref().map_or_else(Expected::refused, |marks| Expected::accepted(marks))
+    }
+
+    /// What comes of sheets of these lengths, one of them at least too short for so many instructions.
+    pub fn too_short(instructions: usize, lengths: (usize, usize)) -> Expected {
+        let fields = vec![instructions as u64, lengths.0.min(lengths.1) as u64];
+        Expected::refused(&Refusal { number: 4, chunk: 0, fields })
     }
 }
 
@@ -117,14 +128,12 @@ fn lengths_with_room(random: &mut Random, instructions: usize) -> (usize, usize)
     }
 }
 
-/// Lengths of two sheets of which one at least is too short, and what must come of them.
-fn too_short(random: &mut Random, instructions: usize) -> ((usize, usize), Expected) {
+/// Lengths of two sheets of which one at least is too short.
+fn lengths_too_short(random: &mut Random, instructions: usize) -> (usize, usize) {
     let below = random.below(instructions);
     let short = random.pick(&[0, instructions - 1, below]);
     let other = random.pick(&[0, below, instructions, instructions + 7, MAX_OPS]);
-    let lengths = if random.chance(50) { (short, other) } else { (other, short) };
-    let fields = vec![instructions as u64, short.min(other) as u64];
-    (lengths, Expected::refused(&Refusal { number: 4, chunk: 0, fields }))
+    if random.chance(50) { (short, other) } else { (other, short) }
 }
 
 // ── Many listings ────────────────────────────────────────────────────────────────────────
@@ -180,8 +189,9 @@ impl Comparison {
         // A listing that is not read is refused with sheets of any length.
         let instructions = read.as_ref().map_or(0, |listing| listing.ops().count());
         let nested = read.as_ref().map_err(Clone::clone).and_then(|listing| nesting::check(listing).map(|()| listing));
-        let expected =
-            self.expected(nested.clone().and_then(|listing| whole::check_nested(listing, &mut Notes::default())));
+        let walked = nested.clone().and_then(|listing| whole::check_nested(listing, &mut Notes::default()));
+        survey::count(&mut self.answers, &walked.as_ref().map_or_else(Refusal::kind, |_| "accepted".to_string()));
+        let expected = Expected::of(&walked);
         let lengths = lengths_with_room(&mut random, instructions);
         let (words, mut faults) = call(check, bytes, lengths, &expected, &mut random);
         self.with_second_walk.add(faults.is_empty());
@@ -198,7 +208,8 @@ impl Comparison {
             Err(_) => survey::count(&mut self.left_out, "refused in reading or nesting"),
         }
         if instructions > 0 && random.chance(25) {
-            let (lengths, expected) = too_short(&mut random, instructions);
+            let lengths = lengths_too_short(&mut random, instructions);
+            let expected = Expected::too_short(instructions, lengths);
             survey::count(&mut self.answers, "refused  4");
             let (_, short_faults) = call(check, bytes, lengths, &expected, &mut random);
             self.too_short.add(short_faults.is_empty());
@@ -206,20 +217,6 @@ impl Comparison {
         }
         if !faults.is_empty() {
             self.disagreements.push(disagreement(number, &faults, bytes));
-        }
-    }
-
-    /// What a call with room in both sheets must give, by the second walk.
-    fn expected(&mut self, walked: Result<Vec<Vec<Mark>>, Refusal>) -> Expected {
-        match walked {
-            Ok(marks) => {
-                survey::count(&mut self.answers, "accepted");
-                Expected::accepted(&marks)
-            }
-            Err(refusal) => {
-                survey::count(&mut self.answers, &refusal.kind());
-                Expected::refused(&refusal)
-            }
         }
     }
 
@@ -268,16 +265,12 @@ mod tests {
 
     /// The second walk as a checker: one that is right.
     fn right((bytes, heights, blinds, answer): Call) -> usize {
-        let expected = listing::read(bytes).and_then(|listing| {
-            let instructions = listing.ops().count() as u64;
-            let length = heights.len().min(blinds.len()) as u64;
-            if length < instructions {
-                return Err(Refusal { number: 4, chunk: 0, fields: vec![instructions, length] });
-            }
-            nesting::check(&listing)?;
-            whole::check_nested(&listing, &mut Notes::default())
-        });
-        let expected = expected.map_or_else(|refusal| Expected::refused(&refusal), |marks| Expected::accepted(&marks));
+        let instructions = listing::read(bytes).map_or(0, |listing| listing.ops().count());
+        let expected = if heights.len().min(blinds.len()) < instructions {
+            Expected::too_short(instructions, (heights.len(), blinds.len()))
+        } else {
+            Expected::of(&whole::check(bytes))
+        };
         heights.fill(0);
         blinds.fill(0);
         answer.fill(0);

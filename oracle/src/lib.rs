@@ -29,6 +29,7 @@ pub mod frame;
 pub mod layout;
 pub mod limits;
 pub mod nesting;
+pub mod replay;
 pub mod whole;
 
 // The listings.

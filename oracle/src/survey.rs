@@ -11,7 +11,7 @@ use crate::limits::{Mark, Notes, Shape};
 use crate::listing::{self, Listing, MAX_LOCALS};
 use crate::refusal::Refusal;
 use crate::{nesting, whole};
-use std::collections::BTreeMap;
+use std::collections::{BTreeMap, BTreeSet};
 
 /// From this count on a survey must reach all that it can; fewer listings may miss something.
 pub const FULL_COUNT: u64 = 20_000;
@@ -123,23 +123,25 @@ impl Survey {
         }
     }
 
+    /// What one listing reaches.
+    pub fn of(bytes: &[u8]) -> Survey {
+        let mut survey = Survey::default();
+        survey.add(0, bytes);
+        survey
+    }
+
+    /// All that was reached: answers, ops with their forms, what the walk met, and numbers of passes.
+    pub fn reached(&self) -> BTreeSet<String> {
+        let answers = self.answers.keys().cloned();
+        let met = self.notes.counts.keys().map(|what| what.to_string());
+        let passes = self.notes.passes.keys().copied().map(loop_with);
+        answers.chain(self.ops.keys().cloned()).chain(met).chain(passes).collect()
+    }
+
     /// What a full survey must reach and this one did not.
     pub fn missing(&self, size: Size) -> Vec<String> {
-        let mut missing = Vec::new();
-        let mut want = |counts: &BTreeMap<String, u64>, key: String| {
-            if !counts.contains_key(&key) {
-                missing.push(key);
-            }
-        };
-        wanted_answers(size).into_iter().for_each(|key| want(&self.answers, key));
-        wanted_forms().into_iter().for_each(|key| want(&self.ops, key));
-        let reached = |what: &&&str| !self.notes.counts.contains_key(**what);
-        missing.extend(WANTED_NOTES.iter().filter(reached).map(|what| what.to_string()));
-        // LOCALS widenings, and the pass that finds all stable.
-        let most_passes = if size == Size::Small { 3 } else { usize::from(MAX_LOCALS) + 1 };
-        let passes = (1..=most_passes).filter(|passes| !self.notes.passes.contains_key(passes));
-        missing.extend(passes.map(|passes| format!("loop with {passes} passes")));
-        missing
+        let reached = self.reached();
+        wanted(size).into_iter().filter(|what| !reached.contains(what)).collect()
     }
 
     /// All counts, as text.
@@ -170,9 +172,19 @@ pub fn count(counts: &mut BTreeMap<String, u64>, key: &str) {
     }
 }
 
-fn wanted_answers(size: Size) -> Vec<String> {
+fn loop_with(passes: usize) -> String {
+    format!("loop with {passes} passes")
+}
+
+/// All that a full survey must reach.
+pub fn wanted(size: Size) -> Vec<String> {
     let mut wanted = answers_compared(size);
     wanted.extend(["left out: limit 5", "left out: limit 6", "left out: other trap codes"].map(String::from));
+    wanted.extend(wanted_forms());
+    wanted.extend(WANTED_NOTES.iter().map(|what| what.to_string()));
+    // LOCALS widenings, and the pass that finds all stable.
+    let most_passes = if size == Size::Small { 3 } else { usize::from(MAX_LOCALS) + 1 };
+    wanted.extend((1..=most_passes).map(loop_with));
     wanted
 }
 

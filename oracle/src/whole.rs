@@ -14,7 +14,8 @@ pub fn whole(bytes: &[u8]) -> String {
     }
 }
 
-fn check(bytes: &[u8]) -> Result<Vec<Vec<Mark>>, Refusal> {
+/// Each chunk's entries of both sheets, or the refusal.
+pub fn check(bytes: &[u8]) -> Result<Vec<Vec<Mark>>, Refusal> {
     let listing = listing::read(bytes)?;
     nesting::check(&listing)?;
     check_nested(&listing, &mut Notes::default())
