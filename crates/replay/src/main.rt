@@ -1,9 +1,8 @@
-// Runs the fixed list of standard input: for each of its listings the check's answer and both sheets are compared with those of the list. What the list is, and
-// where its answers are from, is said in oracle/README.md, "The fixed list".
+// Runs the fixed list of calls that stands on standard input: the check's answer and both sheets are compared with those of the list. What the list is, and where its
+// answers are from, is said in oracle/README.md, "The fixed list".
 use libc::STDIN_FILENO;
 use libc::STDOUT_FILENO;
-ghost use mathlib.Core.Path.{_≡_};
-ghost use Prim.Native.Nat.{_+_, _≤_, _<_};
+ghost use Prim.Native.Nat.{_≤_, _<_};
 ghost use lib.ListN.{length};
 ghost use Rattle.io.specs.Counts.{Counts};
 
@@ -245,7 +244,7 @@ fn are_right(line: &mut [u8], words: [u64; 8], heights: &[u8], blinds: &[u8]) ->
 }
 
 fn report(number: u64, text: &[u8]) {
-    print(b"listing ");
+    print(b"call ");
     io::print_decimal(STDOUT_FILENO, number);
     print(text);
 }
@@ -386,7 +385,7 @@ fn run(line: &mut [u8], text: &mut [u8], heights: &mut [u8], blinds: &mut [u8]) 
         of_original = of_original.add(t.of_original, t.right);
         turns = turns_left(turns, t.counts);
     }
-    all.print(b"listings: ");
+    all.print(b"calls: ");
     of_original.print(b"with the original's answer: ");
 }
 
