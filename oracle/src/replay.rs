@@ -175,7 +175,7 @@ fn class(bytes: &[u8]) -> (String, usize) {
         Err(refusal) => match refusal.passed_limit() {
             Some(1) => (refusal.kind(), 1),
             Some(2) => (format!("{}, {}", refusal.kind(), overfull(bytes)), 1),
-            _ => (refusal.kind(), 9),
+            _ => (refusal.kind(), 13),
         },
     }
 }
