@@ -255,7 +255,7 @@ fn examine_at(
 {
     let first = x.first;
     let i = bytecode::instr_at(t, first + ip);
-    let r = apply::examine(t, x, i, ip, floor, s);
+    let r = apply::step_value(t, x, i, ip, floor, s);
     let h = s.height;
     let blind = r.blind;
     mark_height(heights, first + ip, h);
