@@ -31,7 +31,7 @@ ghost use Rattle.bytecode.specs.Meaning.{chunkOf, sigsOf, nativesOf, enum-sizes
 ghost use Rattle.bytecode.specs.Parts.{declared-shape, constant-of, instrOf, Effect-is};
 ghost use Rattle.shapes.specs.Text.{Means};
 ghost use Rattle.shapes.specs.Model.{valueOf, plainOf, stateOf, stackOf, placesOf, shapeOf};
-ghost use Rattle.apply.specs.Answers.{refusal, is-none, resultOf, Of, Within, Examined};
+ghost use Rattle.apply.specs.Answers.{refusal, is-none, resultOf, Of, Within, Examined, seenWith};
 ghost use Rattle.apply.specs.Rules.{Otherwise, Rules, Body, Stepped, passingOf, refusingOf, is-generic};
 
 // What an examination says: passed, or a refusal of the walk with the Rust's fields.
@@ -842,8 +842,7 @@ fn apply_op(t: &[u64], x: Ctx, i: Instr, e: Effect, s: State, ip: usize) -> Step
 }
 
 pub fn examine(t: &[u64], x: Ctx, i: Instr, ip: usize, floor: usize, s: State) -> Step
-    requires { ⌜ Of (now t) (x .chunk) x ⌝ }
-    requires { ⌜ Within i × (floor ≤ 64) × (s .height ≤ 64) ⌝ }
+    requires { ⌜ Of (now t) (x .chunk) x × Within i × (floor ≤ 64) × (s .height ≤ 64) ⌝ }
     ensures { λ r. ⌜ Examined (now (t .entry)) x i ip floor s r ⌝ }
 {
     let e = bytecode::op_depth_effect(i, x.index_trap, x.host_trap);
@@ -854,6 +853,39 @@ pub fn examine(t: &[u64], x: Ctx, i: Instr, ip: usize, floor: usize, s: State) -
     Step {
         verdict: verdict,
         blind: met_unknown(i, s),
+        state: s,
+    }
+}
+
+// What an examination says, beside the state that it leaves.
+pub struct Seen {
+    pub verdict: Verdict,
+    pub blind: bool,
+}
+
+// The thin step of one instruction: the state is lent, and what the examination leaves is stored in it.
+pub fn step_lent(s: &mut State, t: &[u64], x: Ctx, i: Instr, ip: usize, floor: usize) -> Seen
+    requires { ⌜ Of (now t) (x .chunk) x × Within i × (floor ≤ 64) × (now s .height ≤ 64) ⌝ }
+    ensures { λ r. ⌜ Examined (now (t .entry)) x i ip floor (now (s .entry)) (seenWith r (now (s .exit))) ⌝ }
+{
+    let r = examine(t, x, i, ip, floor, *s);
+    *s = r.state;
+    Seen {
+        verdict: r.verdict,
+        blind: r.blind,
+    }
+}
+
+// The same of a state by value. The walk calls this one: a function that lends a state is proved by hand, and one that calls this is not.
+pub fn step_value(t: &[u64], x: Ctx, i: Instr, ip: usize, floor: usize, before: State) -> Step
+    requires { ⌜ Of (now t) (x .chunk) x × Within i × (floor ≤ 64) × (before .height ≤ 64) ⌝ }
+    ensures { λ r. ⌜ Examined (now (t .entry)) x i ip floor before r ⌝ }
+{
+    let mut s = before;
+    let r = step_lent(&mut s, t, x, i, ip, floor);
+    Step {
+        verdict: r.verdict,
+        blind: r.blind,
         state: s,
     }
 }

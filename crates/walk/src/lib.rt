@@ -5,7 +5,7 @@ ghost use mathlib.Core.Logic.{_≢_};
 ghost use Prim.Native.Nat.{ℕ, suc, _+_, _-_, _≤_, _<_};
 ghost use lib.ListN.{length, set, getD};
 ghost use mathlib.Core.List.{[], _∷_};
-ghost use mathlib.Core.Option.{some};
+ghost use mathlib.Core.Option.{none, some};
 ghost use Rattle.definition.specs.Basics.{ok, refused};
 ghost use Rattle.definition.specs.Instructions.{control, stops, breakIfTo, ifTo, loopTo};
 ghost use Rattle.definition.specs.Nesting.{else-at};
@@ -255,7 +255,7 @@ fn examine_at(
 {
     let first = x.first;
     let i = bytecode::instr_at(t, first + ip);
-    let r = apply::examine(t, x, i, ip, floor, s);
+    let r = apply::step_value(t, x, i, ip, floor, s);
     let h = s.height;
     let blind = r.blind;
     mark_height(heights, first + ip, h);
@@ -571,8 +571,8 @@ fn block_at(
     ensures { λ r. ⌜ (restOf (chunkIn (now (t .entry)) x) (x .locals) end floor r (sheetsOf (now (heights .exit)) (now (blinds .exit))) ≡ visitIn (now (t .entry)) x ip end floor s b (sheetsOf (now (heights .entry)) (now (blinds .entry))) (leads code target)) × Goes ip end r ⌝ }
 {
     match code {
-        65 => if_at(t, heights, blinds, x, target, ip, end, floor, s, b),
         69 => loop_at(t, heights, blinds, x, target, ip, end, floor, s, b),
+        65 => if_at(t, heights, blinds, x, target, ip, end, floor, s, b),
         _ => leaf_at(t, heights, blinds, x, code, target, ip, floor, s, b),
     }
 }
@@ -620,54 +620,94 @@ fn arms_at(
     requires { ⌜ (ip < end) × (control (instrIn (now t) x ip) ≡ ifTo target) ⌝ }
     ensures { λ r. ⌜ (restOf (chunkIn (now (t .entry)) x) (x .locals) end floor r (sheetsOf (now (heights .exit)) (now (blinds .exit))) ≡ armsIn (now (t .entry)) x target ip end floor s b (sheetsOf (now (heights .entry)) (now (blinds .entry)))) × Goes ip end r ⌝ }
 {
-    let locals = x.locals;
     let l = layout_of(t, x, ip, target);
     match l {
-        Layout::OneArm => {
-            let a = interp_region(t, heights, blinds, x, ip + 1, target, floor, s, b);
-            let f = a.flow;
-            if let Flow::Refused(_) = f {
-                return Onward {
-                    next: target + 1,
-                    out: a,
-                };
-            }
-            let k = a.breaks;
-            let skip = Outcome {
-                flow: Flow::Falls,
-                state: s,
-                breaks: k,
-            };
-            let m = join_ends(a, skip, ip, locals);
-            Onward {
-                next: target + 1,
-                out: m,
-            }
-        }
+        Layout::OneArm => one_arm(t, heights, blinds, x, target, ip, end, floor, s, b),
         Layout::TwoArms(closer) => {
-            let a = interp_region(t, heights, blinds, x, ip + 1, target - 1, floor, s, b);
-            let f = a.flow;
-            if let Flow::Refused(_) = f {
-                return Onward {
-                    next: closer + 1,
-                    out: a,
-                };
-            }
-            let k = a.breaks;
-            let e = interp_region(t, heights, blinds, x, target, closer, floor, s, k);
-            let g = e.flow;
-            if let Flow::Refused(_) = g {
-                return Onward {
-                    next: closer + 1,
-                    out: e,
-                };
-            }
-            let m = join_ends(a, e, ip, locals);
-            Onward {
-                next: closer + 1,
-                out: m,
-            }
+            two_arms(t, heights, blinds, x, target, closer, ip, end, floor, s, b)
         }
+    }
+}
+
+// The arm of an If without Else, joined with the state that passes it by.
+fn one_arm(
+    t: &[u64],
+    heights: &mut [u8],
+    blinds: &mut [u8],
+    x: Ctx,
+    target: usize,
+    ip: usize,
+    end: usize,
+    floor: usize,
+    s: State,
+    b: Breaks,
+) -> Onward
+    requires { ⌜ Ready (now t) (now heights) (now blinds) x ip end floor (s .height) (b .state .height) ⌝ }
+    requires { ⌜ (ip < end) × (control (instrIn (now t) x ip) ≡ ifTo target) × (none ≡ else-at (chunkIn (now t) x) ip target) ⌝ }
+    ensures { λ r. ⌜ (restOf (chunkIn (now (t .entry)) x) (x .locals) end floor r (sheetsOf (now (heights .exit)) (now (blinds .exit))) ≡ armsIn (now (t .entry)) x target ip end floor s b (sheetsOf (now (heights .entry)) (now (blinds .entry)))) × Goes ip end r ⌝ }
+{
+    let locals = x.locals;
+    let a = interp_region(t, heights, blinds, x, ip + 1, target, floor, s, b);
+    let f = a.flow;
+    if let Flow::Refused(_) = f {
+        return Onward {
+            next: target + 1,
+            out: a,
+        };
+    }
+    let k = a.breaks;
+    let skip = Outcome {
+        flow: Flow::Falls,
+        state: s,
+        breaks: k,
+    };
+    let m = join_ends(a, skip, ip, locals);
+    Onward {
+        next: target + 1,
+        out: m,
+    }
+}
+
+// The arms of an If with an Else, whose EndIf is the closer; the breaks of the first go on into the second.
+fn two_arms(
+    t: &[u64],
+    heights: &mut [u8],
+    blinds: &mut [u8],
+    x: Ctx,
+    target: usize,
+    closer: usize,
+    ip: usize,
+    end: usize,
+    floor: usize,
+    s: State,
+    b: Breaks,
+) -> Onward
+    requires { ⌜ Ready (now t) (now heights) (now blinds) x ip end floor (s .height) (b .state .height) ⌝ }
+    requires { ⌜ (ip < end) × (control (instrIn (now t) x ip) ≡ ifTo target) × (some closer ≡ else-at (chunkIn (now t) x) ip target) ⌝ }
+    ensures { λ r. ⌜ (restOf (chunkIn (now (t .entry)) x) (x .locals) end floor r (sheetsOf (now (heights .exit)) (now (blinds .exit))) ≡ armsIn (now (t .entry)) x target ip end floor s b (sheetsOf (now (heights .entry)) (now (blinds .entry)))) × Goes ip end r ⌝ }
+{
+    let locals = x.locals;
+    let a = interp_region(t, heights, blinds, x, ip + 1, target - 1, floor, s, b);
+    let f = a.flow;
+    if let Flow::Refused(_) = f {
+        return Onward {
+            next: closer + 1,
+            out: a,
+        };
+    }
+    let k = a.breaks;
+    let e = interp_region(t, heights, blinds, x, target, closer, floor, s, k);
+    let g = e.flow;
+    if let Flow::Refused(_) = g {
+        return Onward {
+            next: closer + 1,
+            out: e,
+        };
+    }
+    let m = join_ends(a, e, ip, locals);
+    Onward {
+        next: closer + 1,
+        out: m,
     }
 }
 

@@ -25,7 +25,7 @@ passed-requires : tie.Need-passed-requires
 passed-requires c κs = search needs
 
 apply-op-requires : tie.Need-apply-op-requires
-apply-op-requires c κs = (c .before .before .before .before .before .before .pre .0, (c .before .before .before .before .before .before .pre .1 .0, c .before .before .before .before .op-depth-effect .ensures, c .before .before .before .before .before .before .pre .1 .2))
+apply-op-requires c κs = (c .before .before .before .before .before .before .pre .0, (c .before .before .before .before .before .before .pre .1, c .before .before .before .before .op-depth-effect .ensures, c .before .before .before .before .before .before .pre .3))
 
 returns : tie.Need-returns
 returns c =

@@ -13,7 +13,7 @@ use Rattle.walk.proofs.examine_at.Statement.{statement}
 use Rattle.walk.proofs.examine_at.Tie as tie
 use Rattle.walk.proofs.examine_at.Reads as reads
 use Rattle.walk.proofs.examine_at.Lts as lts
-use Rattle.apply.proofs.examine.Reads as examine-reads
+use Rattle.apply.proofs.step_value.Reads as step-value-reads
 use Rattle.bytecode.proofs.instr_at.Reads as instr-at-reads
 use Rattle.walk.proofs.mark_blind.Reads as mark-blind-reads
 use Rattle.walk.proofs.mark_height.Reads as mark-height-reads
@@ -27,8 +27,8 @@ instr-at-requires : tie.Need-instr-at-requires
 instr-at-requires c κs = omega (arith, c .before .before .before .pre .1 .0, c .before .before .before .pre .0 .of .within)
 
 -- src/lib.rt:258:9
-examine-requires : tie.Need-examine-requires
-examine-requires c κs = (c .before .before .before .before .pre .0 .of, (record { code-low = c .instr-at .ensures .code-low; a-low = c .instr-at .ensures .a-low; b-low = c .instr-at .ensures .b-low; c-low = c .instr-at .ensures .c-low }, c .before .before .before .before .pre .1 .1, c .before .before .before .before .pre .1 .2))
+step-value-requires : tie.Need-step-value-requires
+step-value-requires c κs = (c .before .before .before .before .pre .0 .of, record { code-low = c .instr-at .ensures .code-low; a-low = c .instr-at .ensures .a-low; b-low = c .instr-at .ensures .b-low; c-low = c .instr-at .ensures .c-low }, c .before .before .before .before .pre .1 .1, c .before .before .before .before .pre .1 .2)
 
 -- src/lib.rt:261:26
 add-mark-height : tie.Need-add-mark-height
@@ -56,7 +56,7 @@ same-length-2 c = search needs
 
 -- src/lib.rt:243:1
 returns : tie.Need-returns
-returns c = (let E = examined-by (c .before .before .before .before .before .before .before .before .before .before .before .before .before .args .t .now) (c .before .before .before .before .before .before .before .before .before .before .before .before .before .args .x) (c .before .before .before .before .before .before .before .before .before .before .before .before .before .args .ip) (c .before .before .before .before .before .before .before .before .before .before .before .before .before .args .floor) (c .before .before .before .before .before .before .before .before .before .before .before .before .before .args .s) (c .before .before .before .before .before .before .before .before .before .instr-at .result) (c .before .before .before .before .before .before .before .before .before .instr-at .ensures) (c .before .before .before .before .before .before .before .before .examine .result) (c .before .before .before .before .before .before .before .before .examine .ensures) in (E, marked (c .before .before .before .before .before .before .before .before .before .before .before .before .before .args .t .now) (c .before .before .before .before .before .before .before .before .before .before .before .before .before .args .x) (c .before .before .before .before .before .before .before .before .before .before .before .before .before .args .ip) (c .before .before .before .before .before .before .before .before .before .before .before .before .before .args .s) _ _ _ _ (c .before .before .before .before .before .before .before .before .examine .result .blind) (c .before .before .before .before .before .before .before .before .before .before .before .before .before .pre .0 .of .first) (E .blind) (c .before .before .before .before .before .before .mark-height .ensures) (c .before .before .mark-blind .ensures)))
+returns c = (let E = examined-by (c .before .before .before .before .before .before .before .before .before .before .before .before .before .args .t .now) (c .before .before .before .before .before .before .before .before .before .before .before .before .before .args .x) (c .before .before .before .before .before .before .before .before .before .before .before .before .before .args .ip) (c .before .before .before .before .before .before .before .before .before .before .before .before .before .args .floor) (c .before .before .before .before .before .before .before .before .before .before .before .before .before .args .s) (c .before .before .before .before .before .before .before .before .before .instr-at .result) (c .before .before .before .before .before .before .before .before .before .instr-at .ensures) (c .before .before .before .before .before .before .before .before .step-value .result) (c .before .before .before .before .before .before .before .before .step-value .ensures) in (E, marked (c .before .before .before .before .before .before .before .before .before .before .before .before .before .args .t .now) (c .before .before .before .before .before .before .before .before .before .before .before .before .before .args .x) (c .before .before .before .before .before .before .before .before .before .before .before .before .before .args .ip) (c .before .before .before .before .before .before .before .before .before .before .before .before .before .args .s) _ _ _ _ (c .before .before .before .before .before .before .before .before .step-value .result .blind) (c .before .before .before .before .before .before .before .before .before .before .before .before .before .pre .0 .of .first) (E .blind) (c .before .before .before .before .before .before .mark-height .ensures) (c .before .before .mark-blind .ensures)))
 
 pub examine-at-spec : {M : Type 1} → statement M
 examine-at-spec =
@@ -64,7 +64,7 @@ examine-at-spec =
     (tie.spec
     add-instr-at
     instr-at-requires
-    examine-requires
+    step-value-requires
     add-mark-height
     mark-height-requires
     add-mark-blind

@@ -17,30 +17,37 @@ use Rattle.walk.proofs.Codes as Codes
 use Rattle.walk.proofs.Laws as Laws
 use Rattle.walk.proofs.Steps as Steps
 use Rattle.walk.proofs.Cycle as Cycle
+use borrow.Author.Needs.{needs}
 use Prim.Native.Nat.{ℕ, _<_}
 use borrow.Fn.Kinds.{In}
 use borrow.Fn.PlainCycle.{Measures, is, falls, and}
 use Rattle.walk.proofs.arms_at.Reads as arms-at
 use Rattle.walk.proofs.arms_at.Kinds as arms-at-kinds
-use Rattle.walk.proofs.+arms_at+block_at+if_at+interp_region+last_pass+loop_at+passes_at.Lts-arms_at as arms-at-lts
+use Rattle.walk.proofs.+arms_at+block_at+if_at+interp_region+last_pass+loop_at+one_arm+passes_at+two_arms.Lts-arms_at as arms-at-lts
 use Rattle.walk.proofs.block_at.Reads as block-at
 use Rattle.walk.proofs.block_at.Kinds as block-at-kinds
-use Rattle.walk.proofs.+arms_at+block_at+if_at+interp_region+last_pass+loop_at+passes_at.Lts-block_at as block-at-lts
+use Rattle.walk.proofs.+arms_at+block_at+if_at+interp_region+last_pass+loop_at+one_arm+passes_at+two_arms.Lts-block_at as block-at-lts
 use Rattle.walk.proofs.if_at.Reads as if-at
 use Rattle.walk.proofs.if_at.Kinds as if-at-kinds
-use Rattle.walk.proofs.+arms_at+block_at+if_at+interp_region+last_pass+loop_at+passes_at.Lts-if_at as if-at-lts
+use Rattle.walk.proofs.+arms_at+block_at+if_at+interp_region+last_pass+loop_at+one_arm+passes_at+two_arms.Lts-if_at as if-at-lts
 use Rattle.walk.proofs.interp_region.Reads as interp-region
 use Rattle.walk.proofs.interp_region.Kinds as interp-region-kinds
-use Rattle.walk.proofs.+arms_at+block_at+if_at+interp_region+last_pass+loop_at+passes_at.Lts-interp_region as interp-region-lts
+use Rattle.walk.proofs.+arms_at+block_at+if_at+interp_region+last_pass+loop_at+one_arm+passes_at+two_arms.Lts-interp_region as interp-region-lts
 use Rattle.walk.proofs.last_pass.Reads as last-pass
 use Rattle.walk.proofs.last_pass.Kinds as last-pass-kinds
-use Rattle.walk.proofs.+arms_at+block_at+if_at+interp_region+last_pass+loop_at+passes_at.Lts-last_pass as last-pass-lts
+use Rattle.walk.proofs.+arms_at+block_at+if_at+interp_region+last_pass+loop_at+one_arm+passes_at+two_arms.Lts-last_pass as last-pass-lts
 use Rattle.walk.proofs.loop_at.Reads as loop-at
 use Rattle.walk.proofs.loop_at.Kinds as loop-at-kinds
-use Rattle.walk.proofs.+arms_at+block_at+if_at+interp_region+last_pass+loop_at+passes_at.Lts-loop_at as loop-at-lts
+use Rattle.walk.proofs.+arms_at+block_at+if_at+interp_region+last_pass+loop_at+one_arm+passes_at+two_arms.Lts-loop_at as loop-at-lts
+use Rattle.walk.proofs.one_arm.Reads as one-arm
+use Rattle.walk.proofs.one_arm.Kinds as one-arm-kinds
+use Rattle.walk.proofs.+arms_at+block_at+if_at+interp_region+last_pass+loop_at+one_arm+passes_at+two_arms.Lts-one_arm as one-arm-lts
 use Rattle.walk.proofs.passes_at.Reads as passes-at
 use Rattle.walk.proofs.passes_at.Kinds as passes-at-kinds
-use Rattle.walk.proofs.+arms_at+block_at+if_at+interp_region+last_pass+loop_at+passes_at.Lts-passes_at as passes-at-lts
+use Rattle.walk.proofs.+arms_at+block_at+if_at+interp_region+last_pass+loop_at+one_arm+passes_at+two_arms.Lts-passes_at as passes-at-lts
+use Rattle.walk.proofs.two_arms.Reads as two-arms
+use Rattle.walk.proofs.two_arms.Kinds as two-arms-kinds
+use Rattle.walk.proofs.+arms_at+block_at+if_at+interp_region+last_pass+loop_at+one_arm+passes_at+two_arms.Lts-two_arms as two-arms-lts
 use Rattle.apply.proofs.Verdict.passed.Reads as passed-reads
 use Rattle.bytecode.proofs.instr_at.Reads as instr-at-reads
 use Rattle.shapes.proofs.State.covers_locals.Reads as covers-locals-reads
@@ -57,13 +64,12 @@ use Rattle.walk.proofs.leave_loop.Reads as leave-loop-reads
 use Rattle.walk.proofs.mark_height.Reads as mark-height-reads
 use Rattle.walk.proofs.not_neutral.Reads as not-neutral-reads
 use Rattle.walk.proofs.refused_at.Reads as refused-at-reads
-use Rattle.walk.proofs.+arms_at+block_at+if_at+interp_region+last_pass+loop_at+passes_at.{
+use Rattle.walk.proofs.+arms_at+block_at+if_at+interp_region+last_pass+loop_at+one_arm+passes_at+two_arms.{
   statement,
 }
-use Rattle.walk.proofs.+arms_at+block_at+if_at+interp_region+last_pass+loop_at+passes_at.Tie.{
+use Rattle.walk.proofs.+arms_at+block_at+if_at+interp_region+last_pass+loop_at+one_arm+passes_at+two_arms.Tie.{
   close,
 }
-use borrow.Author.Needs.{needs}
 
 abbrev μ-arms-at : Measures 3 arms-at-kinds.ps ℕ
 μ-arms-at κs a = 8 * (a .1 .1 .1 .1 .1 .1 .0 - a .1 .1 .1 .1 .1 .0) - 3
@@ -83,8 +89,14 @@ abbrev μ-last-pass : Measures 3 last-pass-kinds.ps ℕ
 abbrev μ-loop-at : Measures 3 loop-at-kinds.ps ℕ
 μ-loop-at κs a = 8 * (a .1 .1 .1 .1 .1 .1 .0 - a .1 .1 .1 .1 .1 .0) - 2
 
+abbrev μ-one-arm : Measures 3 one-arm-kinds.ps ℕ
+μ-one-arm κs a = 8 * (a .1 .1 .1 .1 .1 .1 .0 - a .1 .1 .1 .1 .1 .0) - 4
+
 abbrev μ-passes-at : Measures 3 passes-at-kinds.ps ℕ
 μ-passes-at κs a = 8 * (a .1 .1 .1 .1 .1 .0 - a .1 .1 .1 .1 .0) - 3
+
+abbrev μ-two-arms : Measures 3 two-arms-kinds.ps ℕ
+μ-two-arms κs a = 8 * (a .1 .1 .1 .1 .1 .1 .1 .0 - a .1 .1 .1 .1 .1 .1 .0) - 4
 
 abbrev arms-at-at : ℕ → In 3 arms-at-kinds.ps
 arms-at-at t = and 3 arms-at-kinds.ps (is 3 arms-at-kinds.ps μ-arms-at t) arms-at.Pre
@@ -130,6 +142,12 @@ loop-at-at t = and 3 loop-at-kinds.ps (is 3 loop-at-kinds.ps μ-loop-at t) loop-
 abbrev loop-at-below : ℕ → In 3 loop-at-kinds.ps
 loop-at-below t = and 3 loop-at-kinds.ps (falls 3 loop-at-kinds.ps _<_ μ-loop-at t) loop-at.Pre
 
+abbrev one-arm-at : ℕ → In 3 one-arm-kinds.ps
+one-arm-at t = and 3 one-arm-kinds.ps (is 3 one-arm-kinds.ps μ-one-arm t) one-arm.Pre
+
+abbrev one-arm-below : ℕ → In 3 one-arm-kinds.ps
+one-arm-below t = and 3 one-arm-kinds.ps (falls 3 one-arm-kinds.ps _<_ μ-one-arm t) one-arm.Pre
+
 abbrev passes-at-at : ℕ → In 3 passes-at-kinds.ps
 passes-at-at t = and 3 passes-at-kinds.ps (is 3 passes-at-kinds.ps μ-passes-at t) passes-at.Pre
 
@@ -137,435 +155,177 @@ abbrev passes-at-below : ℕ → In 3 passes-at-kinds.ps
 passes-at-below t =
     and 3 passes-at-kinds.ps (falls 3 passes-at-kinds.ps _<_ μ-passes-at t) passes-at.Pre
 
--- src/lib.rt:624:9
+abbrev two-arms-at : ℕ → In 3 two-arms-kinds.ps
+two-arms-at t = and 3 two-arms-kinds.ps (is 3 two-arms-kinds.ps μ-two-arms t) two-arms.Pre
+
+abbrev two-arms-below : ℕ → In 3 two-arms-kinds.ps
+two-arms-below t =
+    and 3 two-arms-kinds.ps (falls 3 two-arms-kinds.ps _<_ μ-two-arms t) two-arms.Pre
+
+-- src/lib.rt:623:9
 arms-at-layout-of-requires : (t : ℕ) → arms-at-lts.Need-layout-of-requires (
   layout-of-reads.Asked,
   layout-of-reads.Learnt,
-  interp-region-below t,
-  interp-region.Post,
-  join-ends-reads.Asked,
-  join-ends-reads.Learnt,
+  one-arm-below t,
+  one-arm.Post,
+  two-arms-below t,
+  two-arms.Post,
 ) (arms-at-at t) arms-at.Post
 arms-at-layout-of-requires t c κs = (c .before .before .before .pre .1 .0 .placed .of .first, c .before .before .before .pre .1 .0 .placed .of .count, c .before .before .before .pre .1 .0 .placed .of .within, Cycle.inside (c .before .before .before .args .t .now) (c .before .before .before .args .heights .now) (c .before .before .before .args .blinds .now) (c .before .before .before .args .x) (c .before .before .before .args .ip) (c .before .before .before .args .end) (c .before .before .before .args .floor) _ _ (c .before .before .before .pre .1 .0) (c .before .before .before .pre .1 .1 .0))
 
--- src/lib.rt:627:38
+-- src/lib.rt:625:38
 arms-at-enum-told : (t : ℕ) → arms-at-lts.Need-enum-told (
   layout-of-reads.Asked,
   layout-of-reads.Learnt,
-  interp-region-below t,
-  interp-region.Post,
-  join-ends-reads.Asked,
-  join-ends-reads.Learnt,
+  one-arm-below t,
+  one-arm.Post,
+  two-arms-below t,
+  two-arms.Post,
 ) (arms-at-at t) arms-at.Post
 arms-at-enum-told t c = search needs
 
--- src/lib.rt:627:58
-arms-at-add-interp-region : (t : ℕ) → arms-at-lts.Need-add-interp-region (
+-- src/lib.rt:625:27
+arms-at-one-arm-requires : (t : ℕ) → arms-at-lts.Need-one-arm-requires (
   layout-of-reads.Asked,
   layout-of-reads.Learnt,
-  interp-region-below t,
-  interp-region.Post,
-  join-ends-reads.Asked,
-  join-ends-reads.Learnt,
-) (arms-at-at t) arms-at.Post
-arms-at-add-interp-region t c = search needs
-
--- src/lib.rt:627:17
-arms-at-interp-region-requires : (t : ℕ) → arms-at-lts.Need-interp-region-requires (
-  layout-of-reads.Asked,
-  layout-of-reads.Learnt,
-  interp-region-below t,
-  interp-region.Post,
-  join-ends-reads.Asked,
-  join-ends-reads.Learnt,
+  one-arm-below t,
+  one-arm.Post,
+  two-arms-below t,
+  two-arms.Post,
 ) (arms-at-at t) arms-at.Post
 unfolding Outcomes.elseOf
-arms-at-interp-region-requires t c κs = let q = Cycle.one-arm-in (c .before .before .before .before .before .before .before .before .args .t .now) (c .before .before .before .before .before .before .before .before .args .heights .now) (c .before .before .before .before .before .before .before .before .args .blinds .now) (c .before .before .before .before .before .before .before .before .args .x) (c .before .before .before .before .before .before .before .before .args .target) (c .before .before .before .before .before .before .before .before .args .ip) (c .before .before .before .before .before .before .before .before .args .end) (c .before .before .before .before .before .before .before .before .args .floor) _ _ (c .before .before .before .before .before .before .before .before .pre .1 .0) (c .before .before .before .before .before .before .before .before .pre .1 .1 .0) (c .before .before .before .before .before .before .before .before .pre .1 .1 .1) (ap Outcomes.elseOf (sym (c .before .before .enum-told .given .1)) ∙ c .before .before .before .before .layout-of .ensures) in (omega (arith, q .0, q .1, c .before .before .before .before .before .before .before .before .pre .0), record { placed = c .before .before .before .before .before .before .before .before .pre .1 .0 .placed; from = c .before .before .before .before .before .before .before .before .args .ip + 1; arm = q .2; after = omega arith; before = omega (arith, q .0); floor-low = c .before .before .before .before .before .before .before .before .pre .1 .0 .floor-low; height-low = c .before .before .before .before .before .before .before .before .pre .1 .0 .height-low; breaks-low = c .before .before .before .before .before .before .before .before .pre .1 .0 .breaks-low })
+arms-at-one-arm-requires t c κs = (omega (arith, c .before .before .before .before .before .before .before .before .pre .0, (c .before .before .before .before .before .before .before .before .pre .1 .1 .0)), (c .before .before .before .before .before .before .before .before .pre .1 .0, ((c .before .before .before .before .before .before .before .before .pre .1 .1 .0), (c .before .before .before .before .before .before .before .before .pre .1 .1 .1), (ap Outcomes.elseOf (sym (c .before .before .enum-told .given .1)) ∙ c .before .before .before .before .layout-of .ensures))))
 
--- src/lib.rt:631:27
-arms-at-enum-told-2 : (t : ℕ) → arms-at-lts.Need-enum-told-2 (
-  layout-of-reads.Asked,
-  layout-of-reads.Learnt,
-  interp-region-below t,
-  interp-region.Post,
-  join-ends-reads.Asked,
-  join-ends-reads.Learnt,
-) (arms-at-at t) arms-at.Post
-arms-at-enum-told-2 t c = search needs
-
--- src/lib.rt:631:27
-arms-at-add-t31 : (t : ℕ) → arms-at-lts.Need-add-t31 (
-  layout-of-reads.Asked,
-  layout-of-reads.Learnt,
-  interp-region-below t,
-  interp-region.Post,
-  join-ends-reads.Asked,
-  join-ends-reads.Learnt,
-) (arms-at-at t) arms-at.Post
-unfolding Outcomes.elseOf
-arms-at-add-t31 t c = let q = Cycle.one-arm-in (c .before .before .before .before .before .before .before .before .before .before .before .before .before .before .before .args .t .now) (c .before .before .before .before .before .before .before .before .before .before .before .before .before .before .before .args .heights .now) (c .before .before .before .before .before .before .before .before .before .before .before .before .before .before .before .args .blinds .now) (c .before .before .before .before .before .before .before .before .before .before .before .before .before .before .before .args .x) (c .before .before .before .before .before .before .before .before .before .before .before .before .before .before .before .args .target) (c .before .before .before .before .before .before .before .before .before .before .before .before .before .before .before .args .ip) (c .before .before .before .before .before .before .before .before .before .before .before .before .before .before .before .args .end) (c .before .before .before .before .before .before .before .before .before .before .before .before .before .before .before .args .floor) _ _ (c .before .before .before .before .before .before .before .before .before .before .before .before .before .before .before .pre .1 .0) (c .before .before .before .before .before .before .before .before .before .before .before .before .before .before .before .pre .1 .1 .0) (c .before .before .before .before .before .before .before .before .before .before .before .before .before .before .before .pre .1 .1 .1) (ap Outcomes.elseOf (sym (c .before .before .before .before .before .before .before .before .before .enum-told .given .1)) ∙ c .before .before .before .before .before .before .before .before .before .before .before .layout-of .ensures) in omega (arith, q .1, c .before .before .before .before .before .before .before .before .before .before .before .before .before .before .before .fits)
-
--- src/lib.rt:630:17
-arms-at-same-length : (t : ℕ) → arms-at-lts.Need-same-length (
-  layout-of-reads.Asked,
-  layout-of-reads.Learnt,
-  interp-region-below t,
-  interp-region.Post,
-  join-ends-reads.Asked,
-  join-ends-reads.Learnt,
-) (arms-at-at t) arms-at.Post
-arms-at-same-length t c = search needs
-
--- src/lib.rt:630:17
-arms-at-same-length-2 : (t : ℕ) → arms-at-lts.Need-same-length-2 (
-  layout-of-reads.Asked,
-  layout-of-reads.Learnt,
-  interp-region-below t,
-  interp-region.Post,
-  join-ends-reads.Asked,
-  join-ends-reads.Learnt,
-) (arms-at-at t) arms-at.Post
-arms-at-same-length-2 t c = search needs
-
--- src/lib.rt:630:17
-arms-at-returns : (t : ℕ) → arms-at-lts.Need-returns (
-  layout-of-reads.Asked,
-  layout-of-reads.Learnt,
-  interp-region-below t,
-  interp-region.Post,
-  join-ends-reads.Asked,
-  join-ends-reads.Learnt,
-) (arms-at-at t) arms-at.Post
-unfolding Outcomes.elseOf
-arms-at-returns t c = (Cycle.one-refused (c .before .before .before .before .before .before .before .before .before .before .before .before .before .before .before .args .t .now) (c .before .before .before .before .before .before .before .before .before .before .before .before .before .before .before .args .x) (c .before .before .before .before .before .before .before .before .before .before .before .before .before .before .before .args .target) (c .before .before .before .before .before .before .before .before .before .before .before .before .before .before .before .args .ip) (c .before .before .before .before .before .before .before .before .before .before .before .before .before .before .before .args .end) (c .before .before .before .before .before .before .before .before .before .before .before .before .before .before .before .args .floor) (c .before .before .before .before .before .before .before .before .before .before .before .before .before .before .before .args .s) (c .before .before .before .before .before .before .before .before .before .before .before .before .before .before .before .args .b) _ _ (c .before .before .before .before .before .before .interp-region .result) (ap Outcomes.elseOf (sym (c .before .before .before .before .before .before .before .before .before .enum-told .given .1)) ∙ c .before .before .before .before .before .before .before .before .before .before .before .layout-of .ensures) (c .before .before .before .before .before .before .interp-region .ensures .0) ((c .before .before .before .before .before .before .before .before .before .before .before .before .before .before .before .args .target) + 1) (c .enum-told2 .given .1), (let q = Cycle.one-arm-in (c .before .before .before .before .before .before .before .before .before .before .before .before .before .before .before .args .t .now) (c .before .before .before .before .before .before .before .before .before .before .before .before .before .before .before .args .heights .now) (c .before .before .before .before .before .before .before .before .before .before .before .before .before .before .before .args .blinds .now) (c .before .before .before .before .before .before .before .before .before .before .before .before .before .before .before .args .x) (c .before .before .before .before .before .before .before .before .before .before .before .before .before .before .before .args .target) (c .before .before .before .before .before .before .before .before .before .before .before .before .before .before .before .args .ip) (c .before .before .before .before .before .before .before .before .before .before .before .before .before .before .before .args .end) (c .before .before .before .before .before .before .before .before .before .before .before .before .before .before .before .args .floor) _ _ (c .before .before .before .before .before .before .before .before .before .before .before .before .before .before .before .pre .1 .0) (c .before .before .before .before .before .before .before .before .before .before .before .before .before .before .before .pre .1 .1 .0) (c .before .before .before .before .before .before .before .before .before .before .before .before .before .before .before .pre .1 .1 .1) (ap Outcomes.elseOf (sym (c .before .before .before .before .before .before .before .before .before .enum-told .given .1)) ∙ c .before .before .before .before .before .before .before .before .before .before .before .layout-of .ensures) in (omega (arith, q .0), omega (arith, q .1), c .before .before .before .before .before .before .interp-region .ensures .1)))
-
--- src/lib.rt:641:17
-arms-at-join-ends-requires : (t : ℕ) → arms-at-lts.Need-join-ends-requires (
-  layout-of-reads.Asked,
-  layout-of-reads.Learnt,
-  interp-region-below t,
-  interp-region.Post,
-  join-ends-reads.Asked,
-  join-ends-reads.Learnt,
-) (arms-at-at t) arms-at.Post
-arms-at-join-ends-requires t c κs = (c .before .before .before .before .before .before .interp-region .ensures .1 .0, c .before .before .before .before .before .before .before .before .before .before .before .before .before .before .before .pre .1 .0 .height-low, c .before .before .before .before .before .before .interp-region .ensures .1 .1, omega (arith, c .before .before .before .before .before .before .before .before .before .before .before .before .before .before .before .pre .1 .0 .placed .of .locals, locals-low (c .before .before .before .before .before .before .before .before .before .before .before .before .before .before .before .args .t .now) (c .before .before .before .before .before .before .before .before .before .before .before .before .before .before .before .args .x .chunk)), (Laws.open-by (c .before .before .before .before .before .before .interp-region .result .flow) (c .before .match2 .keys2)), tt)
-
--- src/lib.rt:643:23
-arms-at-add-t30 : (t : ℕ) → arms-at-lts.Need-add-t30 (
-  layout-of-reads.Asked,
-  layout-of-reads.Learnt,
-  interp-region-below t,
-  interp-region.Post,
-  join-ends-reads.Asked,
-  join-ends-reads.Learnt,
-) (arms-at-at t) arms-at.Post
-unfolding Outcomes.elseOf
-arms-at-add-t30 t c = let q = Cycle.one-arm-in (c .before .before .before .before .before .before .before .before .before .before .before .before .before .before .before .before .args .t .now) (c .before .before .before .before .before .before .before .before .before .before .before .before .before .before .before .before .args .heights .now) (c .before .before .before .before .before .before .before .before .before .before .before .before .before .before .before .before .args .blinds .now) (c .before .before .before .before .before .before .before .before .before .before .before .before .before .before .before .before .args .x) (c .before .before .before .before .before .before .before .before .before .before .before .before .before .before .before .before .args .target) (c .before .before .before .before .before .before .before .before .before .before .before .before .before .before .before .before .args .ip) (c .before .before .before .before .before .before .before .before .before .before .before .before .before .before .before .before .args .end) (c .before .before .before .before .before .before .before .before .before .before .before .before .before .before .before .before .args .floor) _ _ (c .before .before .before .before .before .before .before .before .before .before .before .before .before .before .before .before .pre .1 .0) (c .before .before .before .before .before .before .before .before .before .before .before .before .before .before .before .before .pre .1 .1 .0) (c .before .before .before .before .before .before .before .before .before .before .before .before .before .before .before .before .pre .1 .1 .1) (ap Outcomes.elseOf (sym (c .before .before .before .before .before .before .before .before .before .before .enum-told .given .1)) ∙ c .before .before .before .before .before .before .before .before .before .before .before .before .layout-of .ensures) in omega (arith, q .1, c .before .before .before .before .before .before .before .before .before .before .before .before .before .before .before .before .fits)
-
--- src/lib.rt:647:25
+-- src/lib.rt:626:25
 arms-at-enum-known-l : (t : ℕ) → arms-at-lts.Need-enum-known-l (
   layout-of-reads.Asked,
   layout-of-reads.Learnt,
-  interp-region-below t,
-  interp-region.Post,
-  join-ends-reads.Asked,
-  join-ends-reads.Learnt,
+  one-arm-below t,
+  one-arm.Post,
+  two-arms-below t,
+  two-arms.Post,
 ) (arms-at-at t) arms-at.Post
 arms-at-enum-known-l t c = search needs
 
--- src/lib.rt:648:58
-arms-at-add-interp-region-2 : (t : ℕ) → arms-at-lts.Need-add-interp-region-2 (
+-- src/lib.rt:627:13
+arms-at-two-arms-requires : (t : ℕ) → arms-at-lts.Need-two-arms-requires (
   layout-of-reads.Asked,
   layout-of-reads.Learnt,
-  interp-region-below t,
-  interp-region.Post,
-  join-ends-reads.Asked,
-  join-ends-reads.Learnt,
-) (arms-at-at t) arms-at.Post
-arms-at-add-interp-region-2 t c = search needs
-
--- src/lib.rt:648:66
-arms-at-sub-interp-region : (t : ℕ) → arms-at-lts.Need-sub-interp-region (
-  layout-of-reads.Asked,
-  layout-of-reads.Learnt,
-  interp-region-below t,
-  interp-region.Post,
-  join-ends-reads.Asked,
-  join-ends-reads.Learnt,
+  one-arm-below t,
+  one-arm.Post,
+  two-arms-below t,
+  two-arms.Post,
 ) (arms-at-at t) arms-at.Post
 unfolding Outcomes.elseOf
-arms-at-sub-interp-region t c = let q = Cycle.two-arms-in (c .before .before .before .before .before .before .before .before .before .args .t .now) (c .before .before .before .before .before .before .before .before .before .args .heights .now) (c .before .before .before .before .before .before .before .before .before .args .blinds .now) (c .before .before .before .before .before .before .before .before .before .args .x) (c .before .before .before .before .before .before .before .before .before .args .target) (c .before .before .before .before .before .before .before .before .before .args .ip) (c .before .before .before .before .before .before .before .before .before .args .end) (c .before .before .before .before .before .before .before .before .before .args .floor) _ _ (c .before .before .before .before .before .before .before .before .before .pre .1 .0) (c .before .before .before .before .before .before .before .before .before .pre .1 .1 .0) (c .before .before .before .before .before .before .before .before .before .pre .1 .1 .1) (c .before .before .before .l .given .0 .0) (ap Outcomes.elseOf (sym (c .before .before .before .l .given .1)) ∙ c .before .before .before .before .before .layout-of .ensures) in omega (arith, q .0)
+arms-at-two-arms-requires t c κs = (omega (arith, c .before .before .before .before .before .before .before .before .before .pre .0, (c .before .before .before .before .before .before .before .before .before .pre .1 .1 .0)), (c .before .before .before .before .before .before .before .before .before .pre .1 .0, ((c .before .before .before .before .before .before .before .before .before .pre .1 .1 .0), (c .before .before .before .before .before .before .before .before .before .pre .1 .1 .1), (ap Outcomes.elseOf (sym (c .before .before .before .l .given .1)) ∙ c .before .before .before .before .before .layout-of .ensures))))
 
--- src/lib.rt:648:17
-arms-at-interp-region-requires-2 : (t : ℕ) → arms-at-lts.Need-interp-region-requires-2 (
+-- src/lib.rt:607:1
+arms-at-same-length : (t : ℕ) → arms-at-lts.Need-same-length (
   layout-of-reads.Asked,
   layout-of-reads.Learnt,
-  interp-region-below t,
-  interp-region.Post,
-  join-ends-reads.Asked,
-  join-ends-reads.Learnt,
+  one-arm-below t,
+  one-arm.Post,
+  two-arms-below t,
+  two-arms.Post,
 ) (arms-at-at t) arms-at.Post
-unfolding Outcomes.elseOf
-arms-at-interp-region-requires-2 t c κs = let q = Cycle.two-arms-in (c .before .before .before .before .before .before .before .before .before .args .t .now) (c .before .before .before .before .before .before .before .before .before .args .heights .now) (c .before .before .before .before .before .before .before .before .before .args .blinds .now) (c .before .before .before .before .before .before .before .before .before .args .x) (c .before .before .before .before .before .before .before .before .before .args .target) (c .before .before .before .before .before .before .before .before .before .args .ip) (c .before .before .before .before .before .before .before .before .before .args .end) (c .before .before .before .before .before .before .before .before .before .args .floor) _ _ (c .before .before .before .before .before .before .before .before .before .pre .1 .0) (c .before .before .before .before .before .before .before .before .before .pre .1 .1 .0) (c .before .before .before .before .before .before .before .before .before .pre .1 .1 .1) (c .before .before .before .l .given .0 .0) (ap Outcomes.elseOf (sym (c .before .before .before .l .given .1)) ∙ c .before .before .before .before .before .layout-of .ensures) in (omega (arith, q .0, q .1, q .2, c .before .before .before .before .before .before .before .before .before .pre .0), record { placed = c .before .before .before .before .before .before .before .before .before .pre .1 .0 .placed; from = c .before .before .before .before .before .before .before .before .before .args .ip + 1; arm = q .3; after = omega arith; before = omega (arith, q .0); floor-low = c .before .before .before .before .before .before .before .before .before .pre .1 .0 .floor-low; height-low = c .before .before .before .before .before .before .before .before .before .pre .1 .0 .height-low; breaks-low = c .before .before .before .before .before .before .before .before .before .pre .1 .0 .breaks-low })
+arms-at-same-length t c = search needs
 
--- src/lib.rt:652:27
-arms-at-enum-told-3 : (t : ℕ) → arms-at-lts.Need-enum-told-3 (
+-- src/lib.rt:607:1
+arms-at-same-length-2 : (t : ℕ) → arms-at-lts.Need-same-length-2 (
   layout-of-reads.Asked,
   layout-of-reads.Learnt,
-  interp-region-below t,
-  interp-region.Post,
-  join-ends-reads.Asked,
-  join-ends-reads.Learnt,
+  one-arm-below t,
+  one-arm.Post,
+  two-arms-below t,
+  two-arms.Post,
 ) (arms-at-at t) arms-at.Post
-arms-at-enum-told-3 t c = search needs
+arms-at-same-length-2 t c = search needs
 
--- src/lib.rt:652:27
-arms-at-add-t39 : (t : ℕ) → arms-at-lts.Need-add-t39 (
+-- src/lib.rt:607:1
+arms-at-returns : (t : ℕ) → arms-at-lts.Need-returns (
   layout-of-reads.Asked,
   layout-of-reads.Learnt,
-  interp-region-below t,
-  interp-region.Post,
-  join-ends-reads.Asked,
-  join-ends-reads.Learnt,
+  one-arm-below t,
+  one-arm.Post,
+  two-arms-below t,
+  two-arms.Post,
 ) (arms-at-at t) arms-at.Post
-unfolding Outcomes.elseOf
-arms-at-add-t39 t c = let q = Cycle.two-arms-in (c .before .before .before .before .before .before .before .before .before .before .before .before .before .before .before .before .args .t .now) (c .before .before .before .before .before .before .before .before .before .before .before .before .before .before .before .before .args .heights .now) (c .before .before .before .before .before .before .before .before .before .before .before .before .before .before .before .before .args .blinds .now) (c .before .before .before .before .before .before .before .before .before .before .before .before .before .before .before .before .args .x) (c .before .before .before .before .before .before .before .before .before .before .before .before .before .before .before .before .args .target) (c .before .before .before .before .before .before .before .before .before .before .before .before .before .before .before .before .args .ip) (c .before .before .before .before .before .before .before .before .before .before .before .before .before .before .before .before .args .end) (c .before .before .before .before .before .before .before .before .before .before .before .before .before .before .before .before .args .floor) _ _ (c .before .before .before .before .before .before .before .before .before .before .before .before .before .before .before .before .pre .1 .0) (c .before .before .before .before .before .before .before .before .before .before .before .before .before .before .before .before .pre .1 .1 .0) (c .before .before .before .before .before .before .before .before .before .before .before .before .before .before .before .before .pre .1 .1 .1) (c .before .before .before .before .before .before .before .before .before .before .l .given .0 .0) (ap Outcomes.elseOf (sym (c .before .before .before .before .before .before .before .before .before .before .l .given .1)) ∙ c .before .before .before .before .before .before .before .before .before .before .before .before .layout-of .ensures) in omega (arith, q .2, c .before .before .before .before .before .before .before .before .before .before .before .before .before .before .before .before .fits)
+arms-at-returns t c = c .before .before .before .before .one-arm .ensures
 
--- src/lib.rt:651:17
+-- src/lib.rt:607:1
 arms-at-same-length-3 : (t : ℕ) → arms-at-lts.Need-same-length-3 (
   layout-of-reads.Asked,
   layout-of-reads.Learnt,
-  interp-region-below t,
-  interp-region.Post,
-  join-ends-reads.Asked,
-  join-ends-reads.Learnt,
+  one-arm-below t,
+  one-arm.Post,
+  two-arms-below t,
+  two-arms.Post,
 ) (arms-at-at t) arms-at.Post
 arms-at-same-length-3 t c = search needs
 
--- src/lib.rt:651:17
+-- src/lib.rt:607:1
 arms-at-same-length-4 : (t : ℕ) → arms-at-lts.Need-same-length-4 (
   layout-of-reads.Asked,
   layout-of-reads.Learnt,
-  interp-region-below t,
-  interp-region.Post,
-  join-ends-reads.Asked,
-  join-ends-reads.Learnt,
+  one-arm-below t,
+  one-arm.Post,
+  two-arms-below t,
+  two-arms.Post,
 ) (arms-at-at t) arms-at.Post
 arms-at-same-length-4 t c = search needs
 
--- src/lib.rt:651:17
+-- src/lib.rt:607:1
 arms-at-returns-2 : (t : ℕ) → arms-at-lts.Need-returns-2 (
   layout-of-reads.Asked,
   layout-of-reads.Learnt,
-  interp-region-below t,
-  interp-region.Post,
-  join-ends-reads.Asked,
-  join-ends-reads.Learnt,
+  one-arm-below t,
+  one-arm.Post,
+  two-arms-below t,
+  two-arms.Post,
 ) (arms-at-at t) arms-at.Post
-unfolding Outcomes.elseOf
-arms-at-returns-2 t c = (Cycle.then-refused (c .before .before .before .before .before .before .before .before .before .before .before .before .before .before .before .before .args .t .now) (c .before .before .before .before .before .before .before .before .before .before .before .before .before .before .before .before .args .x) (c .before .before .before .before .before .before .before .before .before .before .before .before .before .before .before .before .args .target) (c .before .before .before .before .before .before .before .before .before .before .before .before .before .before .before .before .args .ip) (c .before .before .before .before .before .before .before .before .before .before .before .before .before .before .before .before .args .end) (c .before .before .before .before .before .before .before .before .before .before .before .before .before .before .before .before .args .floor) (c .before .before .before .before .before .before .before .before .before .before .before .before .before .before .before .before .args .s) (c .before .before .before .before .before .before .before .before .before .before .before .before .before .before .before .before .args .b) _ _ (c .before .before .before .before .before .before .interp-region2 .result) (c .before .before .before .before .before .before .before .before .before .before .l .given .0 .0) (ap Outcomes.elseOf (sym (c .before .before .before .before .before .before .before .before .before .before .l .given .1)) ∙ c .before .before .before .before .before .before .before .before .before .before .before .before .layout-of .ensures) (c .before .before .before .before .before .before .interp-region2 .ensures .0) ((c .before .before .before .before .before .before .before .before .before .before .l .given .0 .0) + 1) (c .enum-told3 .given .1), (let q = Cycle.two-arms-in (c .before .before .before .before .before .before .before .before .before .before .before .before .before .before .before .before .args .t .now) (c .before .before .before .before .before .before .before .before .before .before .before .before .before .before .before .before .args .heights .now) (c .before .before .before .before .before .before .before .before .before .before .before .before .before .before .before .before .args .blinds .now) (c .before .before .before .before .before .before .before .before .before .before .before .before .before .before .before .before .args .x) (c .before .before .before .before .before .before .before .before .before .before .before .before .before .before .before .before .args .target) (c .before .before .before .before .before .before .before .before .before .before .before .before .before .before .before .before .args .ip) (c .before .before .before .before .before .before .before .before .before .before .before .before .before .before .before .before .args .end) (c .before .before .before .before .before .before .before .before .before .before .before .before .before .before .before .before .args .floor) _ _ (c .before .before .before .before .before .before .before .before .before .before .before .before .before .before .before .before .pre .1 .0) (c .before .before .before .before .before .before .before .before .before .before .before .before .before .before .before .before .pre .1 .1 .0) (c .before .before .before .before .before .before .before .before .before .before .before .before .before .before .before .before .pre .1 .1 .1) (c .before .before .before .before .before .before .before .before .before .before .l .given .0 .0) (ap Outcomes.elseOf (sym (c .before .before .before .before .before .before .before .before .before .before .l .given .1)) ∙ c .before .before .before .before .before .before .before .before .before .before .before .before .layout-of .ensures) in (omega (arith, q .0, q .1), omega (arith, q .2), c .before .before .before .before .before .before .interp-region2 .ensures .1)))
-
--- src/lib.rt:657:17
-arms-at-interp-region-requires-3 : (t : ℕ) → arms-at-lts.Need-interp-region-requires-3 (
-  layout-of-reads.Asked,
-  layout-of-reads.Learnt,
-  interp-region-below t,
-  interp-region.Post,
-  join-ends-reads.Asked,
-  join-ends-reads.Learnt,
-) (arms-at-at t) arms-at.Post
-unfolding Outcomes.elseOf
-arms-at-interp-region-requires-3 t c κs = let q = Cycle.two-arms-in (c .before .before .before .before .before .before .before .before .before .before .before .before .before .before .before .before .before .before .args .t .now) (c .before .before .before .before .before .before .before .before .before .before .before .before .before .before .before .before .before .before .args .heights .now) (c .before .before .before .before .before .before .before .before .before .before .before .before .before .before .before .before .before .before .args .blinds .now) (c .before .before .before .before .before .before .before .before .before .before .before .before .before .before .before .before .before .before .args .x) (c .before .before .before .before .before .before .before .before .before .before .before .before .before .before .before .before .before .before .args .target) (c .before .before .before .before .before .before .before .before .before .before .before .before .before .before .before .before .before .before .args .ip) (c .before .before .before .before .before .before .before .before .before .before .before .before .before .before .before .before .before .before .args .end) (c .before .before .before .before .before .before .before .before .before .before .before .before .before .before .before .before .before .before .args .floor) _ _ (c .before .before .before .before .before .before .before .before .before .before .before .before .before .before .before .before .before .before .pre .1 .0) (c .before .before .before .before .before .before .before .before .before .before .before .before .before .before .before .before .before .before .pre .1 .1 .0) (c .before .before .before .before .before .before .before .before .before .before .before .before .before .before .before .before .before .before .pre .1 .1 .1) (c .before .before .before .before .before .before .before .before .before .before .before .before .l .given .0 .0) (ap Outcomes.elseOf (sym (c .before .before .before .before .before .before .before .before .before .before .before .before .l .given .1)) ∙ c .before .before .before .before .before .before .before .before .before .before .before .before .before .before .layout-of .ensures) in (omega (arith, q .0, q .1, q .2, c .before .before .before .before .before .before .before .before .before .before .before .before .before .before .before .before .before .before .pre .0), record { placed = Cycle.placed-by (c .before .before .before .before .before .before .before .before .before .before .before .before .before .before .before .before .before .before .args .t .now) (c .before .before .before .before .before .before .before .before .before .before .before .before .before .before .before .before .before .before .args .heights .now) (c .before .before .before .before .before .before .before .before .before .before .before .before .before .before .before .before .before .before .args .blinds .now) _ _ (c .before .before .before .before .before .before .before .before .before .before .before .before .before .before .before .before .before .before .args .x) (c .before .before .before .before .before .before .before .before .interp-region2 .kept .1 .0) (c .before .before .before .before .before .before .before .before .interp-region2 .kept .1 .1 .0) (c .before .before .before .before .before .before .before .before .before .before .before .before .before .before .before .before .before .before .pre .1 .0 .placed); from = c .before .before .before .before .before .before .before .before .before .before .before .before .before .before .before .before .before .before .args .target; arm = q .4; after = omega arith; before = q .1; floor-low = c .before .before .before .before .before .before .before .before .before .before .before .before .before .before .before .before .before .before .pre .1 .0 .floor-low; height-low = c .before .before .before .before .before .before .before .before .before .before .before .before .before .before .before .before .before .before .pre .1 .0 .height-low; breaks-low = c .before .before .before .before .before .before .before .before .interp-region2 .ensures .1 .1 })
-
--- src/lib.rt:661:27
-arms-at-enum-told-4 : (t : ℕ) → arms-at-lts.Need-enum-told-4 (
-  layout-of-reads.Asked,
-  layout-of-reads.Learnt,
-  interp-region-below t,
-  interp-region.Post,
-  join-ends-reads.Asked,
-  join-ends-reads.Learnt,
-) (arms-at-at t) arms-at.Post
-arms-at-enum-told-4 t c = search needs
-
--- src/lib.rt:661:27
-arms-at-add-t44 : (t : ℕ) → arms-at-lts.Need-add-t44 (
-  layout-of-reads.Asked,
-  layout-of-reads.Learnt,
-  interp-region-below t,
-  interp-region.Post,
-  join-ends-reads.Asked,
-  join-ends-reads.Learnt,
-) (arms-at-at t) arms-at.Post
-unfolding Outcomes.elseOf
-arms-at-add-t44 t c = let q = Cycle.two-arms-in (c .before .before .before .before .before .before .before .before .before .before .before .before .before .before .before .before .before .before .before .before .before .before .before .before .before .args .t .now) (c .before .before .before .before .before .before .before .before .before .before .before .before .before .before .before .before .before .before .before .before .before .before .before .before .before .args .heights .now) (c .before .before .before .before .before .before .before .before .before .before .before .before .before .before .before .before .before .before .before .before .before .before .before .before .before .args .blinds .now) (c .before .before .before .before .before .before .before .before .before .before .before .before .before .before .before .before .before .before .before .before .before .before .before .before .before .args .x) (c .before .before .before .before .before .before .before .before .before .before .before .before .before .before .before .before .before .before .before .before .before .before .before .before .before .args .target) (c .before .before .before .before .before .before .before .before .before .before .before .before .before .before .before .before .before .before .before .before .before .before .before .before .before .args .ip) (c .before .before .before .before .before .before .before .before .before .before .before .before .before .before .before .before .before .before .before .before .before .before .before .before .before .args .end) (c .before .before .before .before .before .before .before .before .before .before .before .before .before .before .before .before .before .before .before .before .before .before .before .before .before .args .floor) _ _ (c .before .before .before .before .before .before .before .before .before .before .before .before .before .before .before .before .before .before .before .before .before .before .before .before .before .pre .1 .0) (c .before .before .before .before .before .before .before .before .before .before .before .before .before .before .before .before .before .before .before .before .before .before .before .before .before .pre .1 .1 .0) (c .before .before .before .before .before .before .before .before .before .before .before .before .before .before .before .before .before .before .before .before .before .before .before .before .before .pre .1 .1 .1) (c .before .before .before .before .before .before .before .before .before .before .before .before .before .before .before .before .before .before .before .l .given .0 .0) (ap Outcomes.elseOf (sym (c .before .before .before .before .before .before .before .before .before .before .before .before .before .before .before .before .before .before .before .l .given .1)) ∙ c .before .before .before .before .before .before .before .before .before .before .before .before .before .before .before .before .before .before .before .before .before .layout-of .ensures) in omega (arith, q .2, c .before .before .before .before .before .before .before .before .before .before .before .before .before .before .before .before .before .before .before .before .before .before .before .before .before .fits)
-
--- src/lib.rt:660:17
-arms-at-same-length-5 : (t : ℕ) → arms-at-lts.Need-same-length-5 (
-  layout-of-reads.Asked,
-  layout-of-reads.Learnt,
-  interp-region-below t,
-  interp-region.Post,
-  join-ends-reads.Asked,
-  join-ends-reads.Learnt,
-) (arms-at-at t) arms-at.Post
-arms-at-same-length-5 t c = search needs
-
--- src/lib.rt:660:17
-arms-at-same-length-6 : (t : ℕ) → arms-at-lts.Need-same-length-6 (
-  layout-of-reads.Asked,
-  layout-of-reads.Learnt,
-  interp-region-below t,
-  interp-region.Post,
-  join-ends-reads.Asked,
-  join-ends-reads.Learnt,
-) (arms-at-at t) arms-at.Post
-arms-at-same-length-6 t c = search needs
-
--- src/lib.rt:660:17
-arms-at-returns-3 : (t : ℕ) → arms-at-lts.Need-returns-3 (
-  layout-of-reads.Asked,
-  layout-of-reads.Learnt,
-  interp-region-below t,
-  interp-region.Post,
-  join-ends-reads.Asked,
-  join-ends-reads.Learnt,
-) (arms-at-at t) arms-at.Post
-unfolding Outcomes.elseOf
-arms-at-returns-3 t c = (Cycle.else-refused (c .before .before .before .before .before .before .before .before .before .before .before .before .before .before .before .before .before .before .before .before .before .before .before .before .before .args .t .now) (c .before .before .before .before .before .before .before .before .before .before .before .before .before .before .before .before .before .before .before .before .before .before .before .before .before .args .x) (c .before .before .before .before .before .before .before .before .before .before .before .before .before .before .before .before .before .before .before .before .before .before .before .before .before .args .target) (c .before .before .before .before .before .before .before .before .before .before .before .before .before .before .before .before .before .before .before .before .before .before .before .before .before .args .ip) (c .before .before .before .before .before .before .before .before .before .before .before .before .before .before .before .before .before .before .before .before .before .before .before .before .before .args .end) (c .before .before .before .before .before .before .before .before .before .before .before .before .before .before .before .before .before .before .before .before .before .before .before .before .before .args .floor) (c .before .before .before .before .before .before .before .before .before .before .before .before .before .before .before .before .before .before .before .before .before .before .before .before .before .args .s) (c .before .before .before .before .before .before .before .before .before .before .before .before .before .before .before .before .before .before .before .before .before .before .before .before .before .args .b) _ _ (c .before .before .before .before .before .before .before .before .before .before .before .before .before .before .before .interp-region2 .result) (c .before .before .before .before .before .before .before .before .before .before .before .before .before .before .before .before .before .before .before .l .given .0 .0) (ap Outcomes.elseOf (sym (c .before .before .before .before .before .before .before .before .before .before .before .before .before .before .before .before .before .before .before .l .given .1)) ∙ c .before .before .before .before .before .before .before .before .before .before .before .before .before .before .before .before .before .before .before .before .before .layout-of .ensures) (c .before .before .before .before .before .before .before .before .before .before .before .before .before .before .before .interp-region2 .ensures .0) (Laws.open-by (c .before .before .before .before .before .before .before .before .before .before .before .before .before .before .before .interp-region2 .result .flow) (c .before .before .before .before .before .before .before .before .before .before .match3 .keys2)) (c .before .before .before .before .before .before .interp-region3 .result) _ (c .before .before .before .before .before .before .interp-region3 .ensures .0) ((c .before .before .before .before .before .before .before .before .before .before .before .before .before .before .before .before .before .before .before .l .given .0 .0) + 1) (c .enum-told4 .given .1), (let q = Cycle.two-arms-in (c .before .before .before .before .before .before .before .before .before .before .before .before .before .before .before .before .before .before .before .before .before .before .before .before .before .args .t .now) (c .before .before .before .before .before .before .before .before .before .before .before .before .before .before .before .before .before .before .before .before .before .before .before .before .before .args .heights .now) (c .before .before .before .before .before .before .before .before .before .before .before .before .before .before .before .before .before .before .before .before .before .before .before .before .before .args .blinds .now) (c .before .before .before .before .before .before .before .before .before .before .before .before .before .before .before .before .before .before .before .before .before .before .before .before .before .args .x) (c .before .before .before .before .before .before .before .before .before .before .before .before .before .before .before .before .before .before .before .before .before .before .before .before .before .args .target) (c .before .before .before .before .before .before .before .before .before .before .before .before .before .before .before .before .before .before .before .before .before .before .before .before .before .args .ip) (c .before .before .before .before .before .before .before .before .before .before .before .before .before .before .before .before .before .before .before .before .before .before .before .before .before .args .end) (c .before .before .before .before .before .before .before .before .before .before .before .before .before .before .before .before .before .before .before .before .before .before .before .before .before .args .floor) _ _ (c .before .before .before .before .before .before .before .before .before .before .before .before .before .before .before .before .before .before .before .before .before .before .before .before .before .pre .1 .0) (c .before .before .before .before .before .before .before .before .before .before .before .before .before .before .before .before .before .before .before .before .before .before .before .before .before .pre .1 .1 .0) (c .before .before .before .before .before .before .before .before .before .before .before .before .before .before .before .before .before .before .before .before .before .before .before .before .before .pre .1 .1 .1) (c .before .before .before .before .before .before .before .before .before .before .before .before .before .before .before .before .before .before .before .l .given .0 .0) (ap Outcomes.elseOf (sym (c .before .before .before .before .before .before .before .before .before .before .before .before .before .before .before .before .before .before .before .l .given .1)) ∙ c .before .before .before .before .before .before .before .before .before .before .before .before .before .before .before .before .before .before .before .before .before .layout-of .ensures) in (omega (arith, q .0, q .1), omega (arith, q .2), c .before .before .before .before .before .before .interp-region3 .ensures .1)))
-
--- src/lib.rt:665:17
-arms-at-join-ends-requires-2 : (t : ℕ) → arms-at-lts.Need-join-ends-requires-2 (
-  layout-of-reads.Asked,
-  layout-of-reads.Learnt,
-  interp-region-below t,
-  interp-region.Post,
-  join-ends-reads.Asked,
-  join-ends-reads.Learnt,
-) (arms-at-at t) arms-at.Post
-arms-at-join-ends-requires-2 t c κs = (c .before .before .before .before .before .before .before .before .before .before .before .before .before .before .interp-region2 .ensures .1 .0, c .before .before .before .before .before .interp-region3 .ensures .1 .0, c .before .before .before .before .before .interp-region3 .ensures .1 .1, omega (arith, c .before .before .before .before .before .before .before .before .before .before .before .before .before .before .before .before .before .before .before .before .before .before .before .before .pre .1 .0 .placed .of .locals, locals-low (c .before .before .before .before .before .before .before .before .before .before .before .before .before .before .before .before .before .before .before .before .before .before .before .before .args .t .now) (c .before .before .before .before .before .before .before .before .before .before .before .before .before .before .before .before .before .before .before .before .before .before .before .before .args .x .chunk)), (Laws.open-by (c .before .before .before .before .before .before .before .before .before .before .before .before .before .before .interp-region2 .result .flow) (c .before .before .before .before .before .before .before .before .before .match3 .keys2)), (Laws.open-by (c .before .before .before .before .before .interp-region3 .result .flow) (c .match4 .keys2)))
-
--- src/lib.rt:667:23
-arms-at-add-t37 : (t : ℕ) → arms-at-lts.Need-add-t37 (
-  layout-of-reads.Asked,
-  layout-of-reads.Learnt,
-  interp-region-below t,
-  interp-region.Post,
-  join-ends-reads.Asked,
-  join-ends-reads.Learnt,
-) (arms-at-at t) arms-at.Post
-unfolding Outcomes.elseOf
-arms-at-add-t37 t c = let q = Cycle.two-arms-in (c .before .before .before .before .before .before .before .before .before .before .before .before .before .before .before .before .before .before .before .before .before .before .before .before .before .args .t .now) (c .before .before .before .before .before .before .before .before .before .before .before .before .before .before .before .before .before .before .before .before .before .before .before .before .before .args .heights .now) (c .before .before .before .before .before .before .before .before .before .before .before .before .before .before .before .before .before .before .before .before .before .before .before .before .before .args .blinds .now) (c .before .before .before .before .before .before .before .before .before .before .before .before .before .before .before .before .before .before .before .before .before .before .before .before .before .args .x) (c .before .before .before .before .before .before .before .before .before .before .before .before .before .before .before .before .before .before .before .before .before .before .before .before .before .args .target) (c .before .before .before .before .before .before .before .before .before .before .before .before .before .before .before .before .before .before .before .before .before .before .before .before .before .args .ip) (c .before .before .before .before .before .before .before .before .before .before .before .before .before .before .before .before .before .before .before .before .before .before .before .before .before .args .end) (c .before .before .before .before .before .before .before .before .before .before .before .before .before .before .before .before .before .before .before .before .before .before .before .before .before .args .floor) _ _ (c .before .before .before .before .before .before .before .before .before .before .before .before .before .before .before .before .before .before .before .before .before .before .before .before .before .pre .1 .0) (c .before .before .before .before .before .before .before .before .before .before .before .before .before .before .before .before .before .before .before .before .before .before .before .before .before .pre .1 .1 .0) (c .before .before .before .before .before .before .before .before .before .before .before .before .before .before .before .before .before .before .before .before .before .before .before .before .before .pre .1 .1 .1) (c .before .before .before .before .before .before .before .before .before .before .before .before .before .before .before .before .before .before .before .l .given .0 .0) (ap Outcomes.elseOf (sym (c .before .before .before .before .before .before .before .before .before .before .before .before .before .before .before .before .before .before .before .l .given .1)) ∙ c .before .before .before .before .before .before .before .before .before .before .before .before .before .before .before .before .before .before .before .before .before .layout-of .ensures) in omega (arith, q .2, c .before .before .before .before .before .before .before .before .before .before .before .before .before .before .before .before .before .before .before .before .before .before .before .before .before .fits)
-
--- src/lib.rt:607:1
-arms-at-same-length-7 : (t : ℕ) → arms-at-lts.Need-same-length-7 (
-  layout-of-reads.Asked,
-  layout-of-reads.Learnt,
-  interp-region-below t,
-  interp-region.Post,
-  join-ends-reads.Asked,
-  join-ends-reads.Learnt,
-) (arms-at-at t) arms-at.Post
-arms-at-same-length-7 t c = search needs
-
--- src/lib.rt:607:1
-arms-at-same-length-8 : (t : ℕ) → arms-at-lts.Need-same-length-8 (
-  layout-of-reads.Asked,
-  layout-of-reads.Learnt,
-  interp-region-below t,
-  interp-region.Post,
-  join-ends-reads.Asked,
-  join-ends-reads.Learnt,
-) (arms-at-at t) arms-at.Post
-arms-at-same-length-8 t c = search needs
-
--- src/lib.rt:607:1
-arms-at-returns-4 : (t : ℕ) → arms-at-lts.Need-returns-4 (
-  layout-of-reads.Asked,
-  layout-of-reads.Learnt,
-  interp-region-below t,
-  interp-region.Post,
-  join-ends-reads.Asked,
-  join-ends-reads.Learnt,
-) (arms-at-at t) arms-at.Post
-unfolding Outcomes.elseOf Outcomes.fallOf
-arms-at-returns-4 t c = (Cycle.one-joined (c .before .before .before .before .before .before .before .before .before .before .before .before .before .before .before .before .args .t .now) (c .before .before .before .before .before .before .before .before .before .before .before .before .before .before .before .before .args .x) (c .before .before .before .before .before .before .before .before .before .before .before .before .before .before .before .before .args .target) (c .before .before .before .before .before .before .before .before .before .before .before .before .before .before .before .before .args .ip) (c .before .before .before .before .before .before .before .before .before .before .before .before .before .before .before .before .args .end) (c .before .before .before .before .before .before .before .before .before .before .before .before .before .before .before .before .args .floor) (c .before .before .before .before .before .before .before .before .before .before .before .before .before .before .before .before .args .s) (c .before .before .before .before .before .before .before .before .before .before .before .before .before .before .before .before .args .b) _ _ (c .before .before .before .before .before .before .before .interp-region .result) (ap Outcomes.elseOf (sym (c .before .before .before .before .before .before .before .before .before .before .enum-told .given .1)) ∙ c .before .before .before .before .before .before .before .before .before .before .before .before .layout-of .ensures) (c .before .before .before .before .before .before .before .interp-region .ensures .0) (Laws.open-by (c .before .before .before .before .before .before .before .interp-region .result .flow) (c .before .before .match2 .keys2)) (c .join-ends .result) (c .join-ends .ensures .0 _), (let q = Cycle.one-arm-in (c .before .before .before .before .before .before .before .before .before .before .before .before .before .before .before .before .args .t .now) (c .before .before .before .before .before .before .before .before .before .before .before .before .before .before .before .before .args .heights .now) (c .before .before .before .before .before .before .before .before .before .before .before .before .before .before .before .before .args .blinds .now) (c .before .before .before .before .before .before .before .before .before .before .before .before .before .before .before .before .args .x) (c .before .before .before .before .before .before .before .before .before .before .before .before .before .before .before .before .args .target) (c .before .before .before .before .before .before .before .before .before .before .before .before .before .before .before .before .args .ip) (c .before .before .before .before .before .before .before .before .before .before .before .before .before .before .before .before .args .end) (c .before .before .before .before .before .before .before .before .before .before .before .before .before .before .before .before .args .floor) _ _ (c .before .before .before .before .before .before .before .before .before .before .before .before .before .before .before .before .pre .1 .0) (c .before .before .before .before .before .before .before .before .before .before .before .before .before .before .before .before .pre .1 .1 .0) (c .before .before .before .before .before .before .before .before .before .before .before .before .before .before .before .before .pre .1 .1 .1) (ap Outcomes.elseOf (sym (c .before .before .before .before .before .before .before .before .before .before .enum-told .given .1)) ∙ c .before .before .before .before .before .before .before .before .before .before .before .before .layout-of .ensures) in (omega (arith, q .0), omega (arith, q .1), c .join-ends .ensures .1)))
-
--- src/lib.rt:607:1
-arms-at-same-length-9 : (t : ℕ) → arms-at-lts.Need-same-length-9 (
-  layout-of-reads.Asked,
-  layout-of-reads.Learnt,
-  interp-region-below t,
-  interp-region.Post,
-  join-ends-reads.Asked,
-  join-ends-reads.Learnt,
-) (arms-at-at t) arms-at.Post
-arms-at-same-length-9 t c = search needs
-
--- src/lib.rt:607:1
-arms-at-same-length-10 : (t : ℕ) → arms-at-lts.Need-same-length-10 (
-  layout-of-reads.Asked,
-  layout-of-reads.Learnt,
-  interp-region-below t,
-  interp-region.Post,
-  join-ends-reads.Asked,
-  join-ends-reads.Learnt,
-) (arms-at-at t) arms-at.Post
-arms-at-same-length-10 t c = search needs
-
--- src/lib.rt:607:1
-arms-at-returns-5 : (t : ℕ) → arms-at-lts.Need-returns-5 (
-  layout-of-reads.Asked,
-  layout-of-reads.Learnt,
-  interp-region-below t,
-  interp-region.Post,
-  join-ends-reads.Asked,
-  join-ends-reads.Learnt,
-) (arms-at-at t) arms-at.Post
-unfolding Outcomes.elseOf
-arms-at-returns-5 t c = (Cycle.both-joined (c .before .before .before .before .before .before .before .before .before .before .before .before .before .before .before .before .before .before .before .before .before .before .before .before .before .args .t .now) (c .before .before .before .before .before .before .before .before .before .before .before .before .before .before .before .before .before .before .before .before .before .before .before .before .before .args .x) (c .before .before .before .before .before .before .before .before .before .before .before .before .before .before .before .before .before .before .before .before .before .before .before .before .before .args .target) (c .before .before .before .before .before .before .before .before .before .before .before .before .before .before .before .before .before .before .before .before .before .before .before .before .before .args .ip) (c .before .before .before .before .before .before .before .before .before .before .before .before .before .before .before .before .before .before .before .before .before .before .before .before .before .args .end) (c .before .before .before .before .before .before .before .before .before .before .before .before .before .before .before .before .before .before .before .before .before .before .before .before .before .args .floor) (c .before .before .before .before .before .before .before .before .before .before .before .before .before .before .before .before .before .before .before .before .before .before .before .before .before .args .s) (c .before .before .before .before .before .before .before .before .before .before .before .before .before .before .before .before .before .before .before .before .before .before .before .before .before .args .b) _ _ (c .before .before .before .before .before .before .before .before .before .before .before .before .before .before .before .interp-region2 .result) (c .before .before .before .before .before .before .before .before .before .before .before .before .before .before .before .before .before .before .before .l .given .0 .0) (ap Outcomes.elseOf (sym (c .before .before .before .before .before .before .before .before .before .before .before .before .before .before .before .before .before .before .before .l .given .1)) ∙ c .before .before .before .before .before .before .before .before .before .before .before .before .before .before .before .before .before .before .before .before .before .layout-of .ensures) (c .before .before .before .before .before .before .before .before .before .before .before .before .before .before .before .interp-region2 .ensures .0) (Laws.open-by (c .before .before .before .before .before .before .before .before .before .before .before .before .before .before .before .interp-region2 .result .flow) (c .before .before .before .before .before .before .before .before .before .before .match3 .keys2)) (c .before .before .before .before .before .before .interp-region3 .result) _ (c .before .before .before .before .before .before .interp-region3 .ensures .0) (Laws.open-by (c .before .before .before .before .before .before .interp-region3 .result .flow) (c .before .match4 .keys2)) (c .join-ends2 .result) (c .join-ends2 .ensures .0 _), (let q = Cycle.two-arms-in (c .before .before .before .before .before .before .before .before .before .before .before .before .before .before .before .before .before .before .before .before .before .before .before .before .before .args .t .now) (c .before .before .before .before .before .before .before .before .before .before .before .before .before .before .before .before .before .before .before .before .before .before .before .before .before .args .heights .now) (c .before .before .before .before .before .before .before .before .before .before .before .before .before .before .before .before .before .before .before .before .before .before .before .before .before .args .blinds .now) (c .before .before .before .before .before .before .before .before .before .before .before .before .before .before .before .before .before .before .before .before .before .before .before .before .before .args .x) (c .before .before .before .before .before .before .before .before .before .before .before .before .before .before .before .before .before .before .before .before .before .before .before .before .before .args .target) (c .before .before .before .before .before .before .before .before .before .before .before .before .before .before .before .before .before .before .before .before .before .before .before .before .before .args .ip) (c .before .before .before .before .before .before .before .before .before .before .before .before .before .before .before .before .before .before .before .before .before .before .before .before .before .args .end) (c .before .before .before .before .before .before .before .before .before .before .before .before .before .before .before .before .before .before .before .before .before .before .before .before .before .args .floor) _ _ (c .before .before .before .before .before .before .before .before .before .before .before .before .before .before .before .before .before .before .before .before .before .before .before .before .before .pre .1 .0) (c .before .before .before .before .before .before .before .before .before .before .before .before .before .before .before .before .before .before .before .before .before .before .before .before .before .pre .1 .1 .0) (c .before .before .before .before .before .before .before .before .before .before .before .before .before .before .before .before .before .before .before .before .before .before .before .before .before .pre .1 .1 .1) (c .before .before .before .before .before .before .before .before .before .before .before .before .before .before .before .before .before .before .before .l .given .0 .0) (ap Outcomes.elseOf (sym (c .before .before .before .before .before .before .before .before .before .before .before .before .before .before .before .before .before .before .before .l .given .1)) ∙ c .before .before .before .before .before .before .before .before .before .before .before .before .before .before .before .before .before .before .before .before .before .layout-of .ensures) in (omega (arith, q .0, q .1), omega (arith, q .2), c .join-ends2 .ensures .1)))
+arms-at-returns-2 t c = c .before .before .before .before .two-arms .ensures
 
 -- src/lib.rt:574:15
-block-at-if-at-requires : (t : ℕ) → block-at-lts.Need-if-at-requires (
-  if-at-below t,
-  if-at.Post,
+block-at-loop-at-requires : (t : ℕ) → block-at-lts.Need-loop-at-requires (
   loop-at-below t,
   loop-at.Post,
+  if-at-below t,
+  if-at.Post,
   leaf-at-reads.Asked,
   leaf-at-reads.Learnt,
 ) (block-at-at t) block-at.Post
 unfolding Ready.leads
-block-at-if-at-requires t c κs = (omega (arith, c .before .before .before .before .before .before .pre .0, (c .before .before .before .before .before .before .pre .1 .1 .0)), (c .before .before .before .before .before .before .pre .1 .0, ((c .before .before .before .before .before .before .pre .1 .1 .0), (c .before .before .before .before .before .before .pre .1 .1 .3) ∙ ap (λ (k : ℕ). Ready.leads k (c .before .before .before .before .before .before .args .target)) (c .before .before .match .keys1))))
+block-at-loop-at-requires t c κs = (omega (arith, c .before .before .before .before .before .before .pre .0, (c .before .before .before .before .before .before .pre .1 .1 .0)), (c .before .before .before .before .before .before .pre .1 .0, ((c .before .before .before .before .before .before .pre .1 .1 .0), (c .before .before .before .before .before .before .pre .1 .1 .3) ∙ ap (λ (k : ℕ). Ready.leads k (c .before .before .before .before .before .before .args .target)) (c .before .before .match .keys1))))
 
 -- src/lib.rt:575:15
-block-at-loop-at-requires : (t : ℕ) → block-at-lts.Need-loop-at-requires (
-  if-at-below t,
-  if-at.Post,
+block-at-if-at-requires : (t : ℕ) → block-at-lts.Need-if-at-requires (
   loop-at-below t,
   loop-at.Post,
+  if-at-below t,
+  if-at.Post,
   leaf-at-reads.Asked,
   leaf-at-reads.Learnt,
 ) (block-at-at t) block-at.Post
 unfolding Ready.leads
-block-at-loop-at-requires t c κs = (omega (arith, c .before .before .before .before .before .before .pre .0, (c .before .before .before .before .before .before .pre .1 .1 .0)), (c .before .before .before .before .before .before .pre .1 .0, ((c .before .before .before .before .before .before .pre .1 .1 .0), (c .before .before .before .before .before .before .pre .1 .1 .3) ∙ ap (λ (k : ℕ). Ready.leads k (c .before .before .before .before .before .before .args .target)) (c .before .before .match .keys2))))
+block-at-if-at-requires t c κs = (omega (arith, c .before .before .before .before .before .before .pre .0, (c .before .before .before .before .before .before .pre .1 .1 .0)), (c .before .before .before .before .before .before .pre .1 .0, ((c .before .before .before .before .before .before .pre .1 .1 .0), (c .before .before .before .before .before .before .pre .1 .1 .3) ∙ ap (λ (k : ℕ). Ready.leads k (c .before .before .before .before .before .before .args .target)) (c .before .before .match .keys2))))
 
 -- src/lib.rt:576:14
 block-at-leaf-at-requires : (t : ℕ) → block-at-lts.Need-leaf-at-requires (
-  if-at-below t,
-  if-at.Post,
   loop-at-below t,
   loop-at.Post,
+  if-at-below t,
+  if-at.Post,
   leaf-at-reads.Asked,
   leaf-at-reads.Learnt,
 ) (block-at-at t) block-at.Post
-block-at-leaf-at-requires t c κs = (c .before .before .before .before .before .before .pre .1 .0 .placed, ((Cycle.inside (c .before .before .before .before .before .before .args .t .now) (c .before .before .before .before .before .before .args .heights .now) (c .before .before .before .before .before .before .args .blinds .now) (c .before .before .before .before .before .before .args .x) (c .before .before .before .before .before .before .args .ip) (c .before .before .before .before .before .before .args .end) (c .before .before .before .before .before .before .args .floor) _ _ (c .before .before .before .before .before .before .pre .1 .0) (c .before .before .before .before .before .before .pre .1 .1 .0), c .before .before .before .before .before .before .pre .1 .0 .floor-low, c .before .before .before .before .before .before .pre .1 .0 .height-low, c .before .before .before .before .before .before .pre .1 .0 .breaks-low, c .before .before .before .before .before .before .pre .1 .1 .1, c .before .before .before .before .before .before .pre .1 .1 .2, c .before .before .match .rest .0 .1, c .before .before .match .rest .1), (c .before .before .before .before .before .before .pre .1 .1 .3)))
+block-at-leaf-at-requires t c κs = (c .before .before .before .before .before .before .pre .1 .0 .placed, ((Cycle.inside (c .before .before .before .before .before .before .args .t .now) (c .before .before .before .before .before .before .args .heights .now) (c .before .before .before .before .before .before .args .blinds .now) (c .before .before .before .before .before .before .args .x) (c .before .before .before .before .before .before .args .ip) (c .before .before .before .before .before .before .args .end) (c .before .before .before .before .before .before .args .floor) _ _ (c .before .before .before .before .before .before .pre .1 .0) (c .before .before .before .before .before .before .pre .1 .1 .0), c .before .before .before .before .before .before .pre .1 .0 .floor-low, c .before .before .before .before .before .before .pre .1 .0 .height-low, c .before .before .before .before .before .before .pre .1 .0 .breaks-low, c .before .before .before .before .before .before .pre .1 .1 .1, c .before .before .before .before .before .before .pre .1 .1 .2, c .before .before .match .rest .1, c .before .before .match .rest .0 .1), (c .before .before .before .before .before .before .pre .1 .1 .3)))
 
 -- src/lib.rt:556:1
 block-at-same-length : (t : ℕ) → block-at-lts.Need-same-length (
-  if-at-below t,
-  if-at.Post,
   loop-at-below t,
   loop-at.Post,
+  if-at-below t,
+  if-at.Post,
   leaf-at-reads.Asked,
   leaf-at-reads.Learnt,
 ) (block-at-at t) block-at.Post
@@ -573,10 +333,10 @@ block-at-same-length t c = search needs
 
 -- src/lib.rt:556:1
 block-at-same-length-2 : (t : ℕ) → block-at-lts.Need-same-length-2 (
-  if-at-below t,
-  if-at.Post,
   loop-at-below t,
   loop-at.Post,
+  if-at-below t,
+  if-at.Post,
   leaf-at-reads.Asked,
   leaf-at-reads.Learnt,
 ) (block-at-at t) block-at.Post
@@ -584,22 +344,22 @@ block-at-same-length-2 t c = search needs
 
 -- src/lib.rt:556:1
 block-at-returns : (t : ℕ) → block-at-lts.Need-returns (
-  if-at-below t,
-  if-at.Post,
   loop-at-below t,
   loop-at.Post,
+  if-at-below t,
+  if-at.Post,
   leaf-at-reads.Asked,
   leaf-at-reads.Learnt,
 ) (block-at-at t) block-at.Post
 unfolding Ready.leads
-block-at-returns t c = (c .before .before .before .before .if-at .ensures .0 ∙ ap (λ (k : ℕ). Ready.visitIn (c .before .before .before .before .before .before .before .before .before .before .before .args .t .now) (c .before .before .before .before .before .before .before .before .before .before .before .args .x) (c .before .before .before .before .before .before .before .before .before .before .before .args .ip) (c .before .before .before .before .before .before .before .before .before .before .before .args .end) (c .before .before .before .before .before .before .before .before .before .before .before .args .floor) (c .before .before .before .before .before .before .before .before .before .before .before .args .s) (c .before .before .before .before .before .before .before .before .before .before .before .args .b) (Ready.sheetsOf (c .before .before .before .before .before .before .before .before .before .before .before .args .heights .now) (c .before .before .before .before .before .before .before .before .before .before .before .args .blinds .now)) (Ready.leads k (c .before .before .before .before .before .before .before .before .before .before .before .args .target))) (sym (c .before .before .before .before .before .before .before .match .keys1)), c .before .before .before .before .if-at .ensures .1)
+block-at-returns t c = (c .before .before .before .before .loop-at .ensures .0 ∙ ap (λ (k : ℕ). Ready.visitIn (c .before .before .before .before .before .before .before .before .before .before .before .args .t .now) (c .before .before .before .before .before .before .before .before .before .before .before .args .x) (c .before .before .before .before .before .before .before .before .before .before .before .args .ip) (c .before .before .before .before .before .before .before .before .before .before .before .args .end) (c .before .before .before .before .before .before .before .before .before .before .before .args .floor) (c .before .before .before .before .before .before .before .before .before .before .before .args .s) (c .before .before .before .before .before .before .before .before .before .before .before .args .b) (Ready.sheetsOf (c .before .before .before .before .before .before .before .before .before .before .before .args .heights .now) (c .before .before .before .before .before .before .before .before .before .before .before .args .blinds .now)) (Ready.leads k (c .before .before .before .before .before .before .before .before .before .before .before .args .target))) (sym (c .before .before .before .before .before .before .before .match .keys1)), c .before .before .before .before .loop-at .ensures .1)
 
 -- src/lib.rt:556:1
 block-at-same-length-3 : (t : ℕ) → block-at-lts.Need-same-length-3 (
-  if-at-below t,
-  if-at.Post,
   loop-at-below t,
   loop-at.Post,
+  if-at-below t,
+  if-at.Post,
   leaf-at-reads.Asked,
   leaf-at-reads.Learnt,
 ) (block-at-at t) block-at.Post
@@ -607,10 +367,10 @@ block-at-same-length-3 t c = search needs
 
 -- src/lib.rt:556:1
 block-at-same-length-4 : (t : ℕ) → block-at-lts.Need-same-length-4 (
-  if-at-below t,
-  if-at.Post,
   loop-at-below t,
   loop-at.Post,
+  if-at-below t,
+  if-at.Post,
   leaf-at-reads.Asked,
   leaf-at-reads.Learnt,
 ) (block-at-at t) block-at.Post
@@ -618,22 +378,22 @@ block-at-same-length-4 t c = search needs
 
 -- src/lib.rt:556:1
 block-at-returns-2 : (t : ℕ) → block-at-lts.Need-returns-2 (
-  if-at-below t,
-  if-at.Post,
   loop-at-below t,
   loop-at.Post,
+  if-at-below t,
+  if-at.Post,
   leaf-at-reads.Asked,
   leaf-at-reads.Learnt,
 ) (block-at-at t) block-at.Post
 unfolding Ready.leads
-block-at-returns-2 t c = (c .before .before .before .before .loop-at .ensures .0 ∙ ap (λ (k : ℕ). Ready.visitIn (c .before .before .before .before .before .before .before .before .before .before .before .args .t .now) (c .before .before .before .before .before .before .before .before .before .before .before .args .x) (c .before .before .before .before .before .before .before .before .before .before .before .args .ip) (c .before .before .before .before .before .before .before .before .before .before .before .args .end) (c .before .before .before .before .before .before .before .before .before .before .before .args .floor) (c .before .before .before .before .before .before .before .before .before .before .before .args .s) (c .before .before .before .before .before .before .before .before .before .before .before .args .b) (Ready.sheetsOf (c .before .before .before .before .before .before .before .before .before .before .before .args .heights .now) (c .before .before .before .before .before .before .before .before .before .before .before .args .blinds .now)) (Ready.leads k (c .before .before .before .before .before .before .before .before .before .before .before .args .target))) (sym (c .before .before .before .before .before .before .before .match .keys2)), c .before .before .before .before .loop-at .ensures .1)
+block-at-returns-2 t c = (c .before .before .before .before .if-at .ensures .0 ∙ ap (λ (k : ℕ). Ready.visitIn (c .before .before .before .before .before .before .before .before .before .before .before .args .t .now) (c .before .before .before .before .before .before .before .before .before .before .before .args .x) (c .before .before .before .before .before .before .before .before .before .before .before .args .ip) (c .before .before .before .before .before .before .before .before .before .before .before .args .end) (c .before .before .before .before .before .before .before .before .before .before .before .args .floor) (c .before .before .before .before .before .before .before .before .before .before .before .args .s) (c .before .before .before .before .before .before .before .before .before .before .before .args .b) (Ready.sheetsOf (c .before .before .before .before .before .before .before .before .before .before .before .args .heights .now) (c .before .before .before .before .before .before .before .before .before .before .before .args .blinds .now)) (Ready.leads k (c .before .before .before .before .before .before .before .before .before .before .before .args .target))) (sym (c .before .before .before .before .before .before .before .match .keys2)), c .before .before .before .before .if-at .ensures .1)
 
 -- src/lib.rt:556:1
 block-at-same-length-5 : (t : ℕ) → block-at-lts.Need-same-length-5 (
-  if-at-below t,
-  if-at.Post,
   loop-at-below t,
   loop-at.Post,
+  if-at-below t,
+  if-at.Post,
   leaf-at-reads.Asked,
   leaf-at-reads.Learnt,
 ) (block-at-at t) block-at.Post
@@ -641,10 +401,10 @@ block-at-same-length-5 t c = search needs
 
 -- src/lib.rt:556:1
 block-at-same-length-6 : (t : ℕ) → block-at-lts.Need-same-length-6 (
-  if-at-below t,
-  if-at.Post,
   loop-at-below t,
   loop-at.Post,
+  if-at-below t,
+  if-at.Post,
   leaf-at-reads.Asked,
   leaf-at-reads.Learnt,
 ) (block-at-at t) block-at.Post
@@ -652,10 +412,10 @@ block-at-same-length-6 t c = search needs
 
 -- src/lib.rt:556:1
 block-at-returns-3 : (t : ℕ) → block-at-lts.Need-returns-3 (
-  if-at-below t,
-  if-at.Post,
   loop-at-below t,
   loop-at.Post,
+  if-at-below t,
+  if-at.Post,
   leaf-at-reads.Asked,
   leaf-at-reads.Learnt,
 ) (block-at-at t) block-at.Post
@@ -1216,7 +976,7 @@ interp-region-returns-4 : (t : ℕ) → interp-region-lts.Need-returns-4 (
 ) (interp-region-at t) interp-region.Post interp-region-Inv-loop interp-region-μ-loop
 interp-region-returns-4 t c = (Cycle.walking-end (c .before .before .before .before .before .args .t .now) (c .before .before .before .before .before .args .heights .now) (c .before .before .before .before .before .args .blinds .now) (c .before .before .before .before .before .args .x) (c .before .before .before .before .before .args .start) (c .before .before .before .before .before .args .end) (c .before .before .before .before .before .args .floor) (c .before .before .before .before .before .args .s0) (c .before .before .before .before .before .args .b0) (c .before .loop .heights) (c .before .loop .blinds) (c .before .loop .ip) (c .before .loop .s) (c .before .loop .b) (c .before .loop .inv) (omega (arith, c .loop-test .left)), ((c .before .loop .inv) .ready .height-low, (c .before .loop .inv) .ready .breaks-low))
 
--- src/lib.rt:789:16
+-- src/lib.rt:829:16
 last-pass-add-body : (t : ℕ) → last-pass-lts.Need-add-body (
   invalidate-written-locals-reads.Asked,
   invalidate-written-locals-reads.Learnt,
@@ -1227,7 +987,7 @@ last-pass-add-body : (t : ℕ) → last-pass-lts.Need-add-body (
 ) (last-pass-at t) last-pass.Post
 last-pass-add-body t c = omega (arith, c .before .before .before .pre .1 .1 .0, c .before .before .before .pre .1 .1 .1, c .before .before .before .fits)
 
--- src/lib.rt:790:16
+-- src/lib.rt:830:16
 last-pass-sub-last : (t : ℕ) → last-pass-lts.Need-sub-last (
   invalidate-written-locals-reads.Asked,
   invalidate-written-locals-reads.Learnt,
@@ -1238,7 +998,7 @@ last-pass-sub-last : (t : ℕ) → last-pass-lts.Need-sub-last (
 ) (last-pass-at t) last-pass.Post
 last-pass-sub-last t c = omega (arith, c .before .before .before .pre .1 .1 .0)
 
--- src/lib.rt:791:9
+-- src/lib.rt:831:9
 last-pass-invalidate-written-locals-requires :
     (t : ℕ) → last-pass-lts.Need-invalidate-written-locals-requires (
       invalidate-written-locals-reads.Asked,
@@ -1250,7 +1010,7 @@ last-pass-invalidate-written-locals-requires :
     ) (last-pass-at t) last-pass.Post
 last-pass-invalidate-written-locals-requires t c κs = (c .before .before .before .pre .1 .0 .of .first, c .before .before .before .pre .1 .0 .of .count, c .before .before .before .pre .1 .0 .of .within, omega (arith, c .before .before .before .pre .1 .1 .0, c .before .before .before .pre .1 .1 .1), omega (arith, c .before .before .before .pre .1 .0 .of .locals, locals-low (c .before .before .before .args .t .now) (c .before .before .before .args .x .chunk)), c .before .before .before .pre .1 .1 .3)
 
--- src/lib.rt:796:9
+-- src/lib.rt:836:9
 last-pass-interp-region-requires : (t : ℕ) → last-pass-lts.Need-interp-region-requires (
   invalidate-written-locals-reads.Asked,
   invalidate-written-locals-reads.Learnt,
@@ -1261,7 +1021,7 @@ last-pass-interp-region-requires : (t : ℕ) → last-pass-lts.Need-interp-regio
 ) (last-pass-at t) last-pass.Post
 last-pass-interp-region-requires t c κs = (omega (arith, c .before .before .before .before .before .before .pre .0, c .before .before .before .before .before .before .pre .1 .1 .0), record { placed = c .before .before .before .before .before .before .pre .1 .0; from = c .before .before .before .before .before .before .args .ip + 1; arm = Cycle.loop-arm-in (c .before .before .before .before .before .before .args .t .now) (c .before .before .before .before .before .before .args .x) (c .before .before .before .before .before .before .args .ip) (c .before .before .before .before .before .before .args .exit) (c .before .before .before .before .before .before .pre .1 .0 .of .first) (c .before .before .before .before .before .before .pre .1 .0 .of .count) (omega (arith, c .before .before .before .before .before .before .pre .1 .1 .0, c .before .before .before .before .before .before .pre .1 .1 .1)) (c .before .before .before .before .before .before .pre .1 .1 .4); after = omega arith; before = omega (arith, c .before .before .before .before .before .before .pre .1 .1 .0); floor-low = c .before .before .before .before .before .before .pre .1 .1 .2; height-low = omega (arith, c .before .before .invalidate-written-locals .ensures .0, c .before .before .before .before .before .before .pre .1 .1 .3); breaks-low = omega (arith, c .before .before .invalidate-written-locals .ensures .0, c .before .before .before .before .before .before .pre .1 .1 .3) })
 
--- src/lib.rt:797:5
+-- src/lib.rt:837:5
 last-pass-last-end-requires : (t : ℕ) → last-pass-lts.Need-last-end-requires (
   invalidate-written-locals-reads.Asked,
   invalidate-written-locals-reads.Learnt,
@@ -1272,7 +1032,7 @@ last-pass-last-end-requires : (t : ℕ) → last-pass-lts.Need-last-end-requires
 ) (last-pass-at t) last-pass.Post
 last-pass-last-end-requires t c κs = (c .before .before .before .before .interp-region .ensures .1, omega (arith, c .before .before .before .before .before .before .before .invalidate-written-locals .ensures .0, c .before .before .before .before .before .before .before .before .before .before .before .pre .1 .1 .3), omega (arith, c .before .before .before .before .before .before .before .before .before .before .before .pre .1 .0 .of .locals, locals-low (c .before .before .before .before .before .before .before .before .before .before .before .args .t .now) (c .before .before .before .before .before .before .before .before .before .before .before .args .x .chunk)))
 
--- src/lib.rt:774:1
+-- src/lib.rt:814:1
 last-pass-same-length : (t : ℕ) → last-pass-lts.Need-same-length (
   invalidate-written-locals-reads.Asked,
   invalidate-written-locals-reads.Learnt,
@@ -1283,7 +1043,7 @@ last-pass-same-length : (t : ℕ) → last-pass-lts.Need-same-length (
 ) (last-pass-at t) last-pass.Post
 last-pass-same-length t c = search needs
 
--- src/lib.rt:774:1
+-- src/lib.rt:814:1
 last-pass-same-length-2 : (t : ℕ) → last-pass-lts.Need-same-length-2 (
   invalidate-written-locals-reads.Asked,
   invalidate-written-locals-reads.Learnt,
@@ -1294,7 +1054,7 @@ last-pass-same-length-2 : (t : ℕ) → last-pass-lts.Need-same-length-2 (
 ) (last-pass-at t) last-pass.Post
 last-pass-same-length-2 t c = search needs
 
--- src/lib.rt:774:1
+-- src/lib.rt:814:1
 last-pass-returns : (t : ℕ) → last-pass-lts.Need-returns (
   invalidate-written-locals-reads.Asked,
   invalidate-written-locals-reads.Learnt,
@@ -1305,7 +1065,7 @@ last-pass-returns : (t : ℕ) → last-pass-lts.Need-returns (
 ) (last-pass-at t) last-pass.Post
 last-pass-returns t c = (Cycle.last-made (c .before .before .before .before .before .before .before .before .before .before .before .before .args .t .now) (c .before .before .before .before .before .before .before .before .before .before .before .before .args .x) (c .before .before .before .before .before .before .before .before .before .before .before .before .args .ip) (c .before .before .before .before .before .before .before .before .before .before .before .before .args .exit) (c .before .before .before .before .before .before .before .before .before .before .before .before .args .floor) (c .before .before .before .before .before .before .before .before .before .before .before .before .args .head) (c .before .before .before .before .before .before .before .before .invalidate-written-locals .result) (c .before .before .before .before .before .before .before .before .invalidate-written-locals .ensures .1) _ refl (c .before .before .before .before .before .interp-region .result) _ _ (c .before .before .before .before .before .interp-region .ensures .0) (c .last-end .result) (c .last-end .ensures .0 _), c .last-end .ensures .1)
 
--- src/lib.rt:693:26
+-- src/lib.rt:733:26
 loop-at-add-mark-height : (t : ℕ) → loop-at-lts.Need-add-mark-height (
   mark-height-reads.Asked,
   mark-height-reads.Learnt,
@@ -1314,7 +1074,7 @@ loop-at-add-mark-height : (t : ℕ) → loop-at-lts.Need-add-mark-height (
 ) (loop-at-at t) loop-at.Post
 loop-at-add-mark-height t c = omega (arith, Cycle.inside (c .before .before .before .before .args .t .now) (c .before .before .before .before .args .heights .now) (c .before .before .before .before .args .blinds .now) (c .before .before .before .before .args .x) (c .before .before .before .before .args .ip) (c .before .before .before .before .args .end) (c .before .before .before .before .args .floor) _ _ (c .before .before .before .before .pre .1 .0) (c .before .before .before .before .pre .1 .1 .0), c .before .before .before .before .pre .1 .0 .placed .of .within)
 
--- src/lib.rt:693:5
+-- src/lib.rt:733:5
 loop-at-mark-height-requires : (t : ℕ) → loop-at-lts.Need-mark-height-requires (
   mark-height-reads.Asked,
   mark-height-reads.Learnt,
@@ -1323,7 +1083,7 @@ loop-at-mark-height-requires : (t : ℕ) → loop-at-lts.Need-mark-height-requir
 ) (loop-at-at t) loop-at.Post
 loop-at-mark-height-requires t c κs = (omega (arith, Cycle.inside (c .before .before .before .before .args .t .now) (c .before .before .before .before .args .heights .now) (c .before .before .before .before .args .blinds .now) (c .before .before .before .before .args .x) (c .before .before .before .before .args .ip) (c .before .before .before .before .args .end) (c .before .before .before .before .args .floor) _ _ (c .before .before .before .before .pre .1 .0) (c .before .before .before .before .pre .1 .1 .0), c .before .before .before .before .pre .1 .0 .placed .heights-long), c .before .before .before .before .pre .1 .0 .height-low)
 
--- src/lib.rt:694:9
+-- src/lib.rt:734:9
 loop-at-passes-at-requires : (t : ℕ) → loop-at-lts.Need-passes-at-requires (
   mark-height-reads.Asked,
   mark-height-reads.Learnt,
@@ -1332,7 +1092,7 @@ loop-at-passes-at-requires : (t : ℕ) → loop-at-lts.Need-passes-at-requires (
 ) (loop-at-at t) loop-at.Post
 loop-at-passes-at-requires t c κs = let q = Cycle.loop-in (c .before .before .before .before .before .before .before .before .before .args .t .now) (c .before .before .before .before .before .before .before .before .before .args .heights .now) (c .before .before .before .before .before .before .before .before .before .args .blinds .now) (c .before .before .before .before .before .before .before .before .before .args .x) (c .before .before .before .before .before .before .before .before .before .args .target) (c .before .before .before .before .before .before .before .before .before .args .ip) (c .before .before .before .before .before .before .before .before .before .args .end) (c .before .before .before .before .before .before .before .before .before .args .floor) _ _ (c .before .before .before .before .before .before .before .before .before .pre .1 .0) (c .before .before .before .before .before .before .before .before .before .pre .1 .1 .0) (c .before .before .before .before .before .before .before .before .before .pre .1 .1 .1) in (omega (arith, c .before .before .before .before .before .before .before .before .before .pre .0, q .0, q .1), (Cycle.placed-by (c .before .before .before .before .before .before .before .before .before .args .t .now) (c .before .before .before .before .before .before .before .before .before .args .heights .now) (c .before .before .before .before .before .before .before .before .before .args .blinds .now) _ (c .before .before .before .before .before .before .before .before .before .args .blinds .now) (c .before .before .before .before .before .before .before .before .before .args .x) (c .before .before .before .before .mark-height .kept .0) refl (c .before .before .before .before .before .before .before .before .before .pre .1 .0 .placed), (q .0, omega (arith, q .1, Cycle.arm-in (c .before .before .before .before .before .before .before .before .before .args .t .now) (c .before .before .before .before .before .before .before .before .before .args .x) _ (c .before .before .before .before .before .before .before .before .before .args .end) (c .before .before .before .before .before .before .before .before .before .pre .1 .0 .placed .of .count) (c .before .before .before .before .before .before .before .before .before .pre .1 .0 .placed .of .first) (c .before .before .before .before .before .before .before .before .before .pre .1 .0 .placed .nested) ((c .before .before .before .before .before .before .before .before .before .pre .1 .0) .arm)), c .before .before .before .before .before .before .before .before .before .pre .1 .0 .height-low, (c .before .before .before .before .before .before .before .before .before .pre .1 .1 .1))))
 
--- src/lib.rt:698:26
+-- src/lib.rt:738:26
 loop-at-enum-known-f : (t : ℕ) → loop-at-lts.Need-enum-known-f (
   mark-height-reads.Asked,
   mark-height-reads.Learnt,
@@ -1341,7 +1101,7 @@ loop-at-enum-known-f : (t : ℕ) → loop-at-lts.Need-enum-known-f (
 ) (loop-at-at t) loop-at.Post
 loop-at-enum-known-f t c = search needs
 
--- src/lib.rt:709:23
+-- src/lib.rt:749:23
 loop-at-enum-told : (t : ℕ) → loop-at-lts.Need-enum-told (
   mark-height-reads.Asked,
   mark-height-reads.Learnt,
@@ -1350,7 +1110,7 @@ loop-at-enum-told : (t : ℕ) → loop-at-lts.Need-enum-told (
 ) (loop-at-at t) loop-at.Post
 loop-at-enum-told t c = search needs
 
--- src/lib.rt:675:1
+-- src/lib.rt:715:1
 loop-at-same-length : (t : ℕ) → loop-at-lts.Need-same-length (
   mark-height-reads.Asked,
   mark-height-reads.Learnt,
@@ -1359,7 +1119,7 @@ loop-at-same-length : (t : ℕ) → loop-at-lts.Need-same-length (
 ) (loop-at-at t) loop-at.Post
 loop-at-same-length t c = search needs
 
--- src/lib.rt:675:1
+-- src/lib.rt:715:1
 loop-at-same-length-2 : (t : ℕ) → loop-at-lts.Need-same-length-2 (
   mark-height-reads.Asked,
   mark-height-reads.Learnt,
@@ -1368,7 +1128,7 @@ loop-at-same-length-2 : (t : ℕ) → loop-at-lts.Need-same-length-2 (
 ) (loop-at-at t) loop-at.Post
 loop-at-same-length-2 t c = search needs
 
--- src/lib.rt:675:1
+-- src/lib.rt:715:1
 loop-at-returns : (t : ℕ) → loop-at-lts.Need-returns (
   mark-height-reads.Asked,
   mark-height-reads.Learnt,
@@ -1378,7 +1138,7 @@ loop-at-returns : (t : ℕ) → loop-at-lts.Need-returns (
 unfolding Outcomes.onwardOf
 loop-at-returns t c = (Cycle.loop-stopped (c .before .before .before .before .before .before .before .before .before .before .before .before .before .before .before .before .before .before .args .t .now) (c .before .before .before .before .before .before .before .before .before .before .before .before .before .before .before .before .before .before .args .x) (c .before .before .before .before .before .before .before .before .before .before .before .before .before .before .before .before .before .before .args .target) (c .before .before .before .before .before .before .before .before .before .before .before .before .before .before .before .before .before .before .args .ip) (c .before .before .before .before .before .before .before .before .before .before .before .before .before .before .before .before .before .before .args .end) (c .before .before .before .before .before .before .before .before .before .before .before .before .before .before .before .before .before .before .args .floor) (c .before .before .before .before .before .before .before .before .before .before .before .before .before .before .before .before .before .before .args .s) (c .before .before .before .before .before .before .before .before .before .before .before .before .before .before .before .before .before .before .args .b) (c .before .before .before .before .before .before .before .before .before .before .before .before .before .before .before .before .before .before .args .heights .now) (c .before .before .before .before .before .before .before .before .before .before .before .before .before .before .before .before .before .before .args .blinds .now) _ (c .before .before .before .before .before .before .before .before .before .before .before .before .before .before .before .before .before .before .pre .1 .0 .placed .of .first) (c .before .before .before .before .before .before .before .before .before .before .before .before .before .before .before .before .before .before .pre .1 .1 .1) (c .before .before .before .before .before .before .before .before .before .before .before .before .before .mark-height .ensures) (c .before .before .before .before .before .before .before .before .passes-at .result) _ (c .before .before .before .before .before .before .before .before .passes-at .ensures .0) (c .before .f .given .1), (let q = Cycle.loop-in (c .before .before .before .before .before .before .before .before .before .before .before .before .before .before .before .before .before .before .args .t .now) (c .before .before .before .before .before .before .before .before .before .before .before .before .before .before .before .before .before .before .args .heights .now) (c .before .before .before .before .before .before .before .before .before .before .before .before .before .before .before .before .before .before .args .blinds .now) (c .before .before .before .before .before .before .before .before .before .before .before .before .before .before .before .before .before .before .args .x) (c .before .before .before .before .before .before .before .before .before .before .before .before .before .before .before .before .before .before .args .target) (c .before .before .before .before .before .before .before .before .before .before .before .before .before .before .before .before .before .before .args .ip) (c .before .before .before .before .before .before .before .before .before .before .before .before .before .before .before .before .before .before .args .end) (c .before .before .before .before .before .before .before .before .before .before .before .before .before .before .before .before .before .before .args .floor) _ _ (c .before .before .before .before .before .before .before .before .before .before .before .before .before .before .before .before .before .before .pre .1 .0) (c .before .before .before .before .before .before .before .before .before .before .before .before .before .before .before .before .before .before .pre .1 .1 .0) (c .before .before .before .before .before .before .before .before .before .before .before .before .before .before .before .before .before .before .pre .1 .1 .1) in (omega (arith, q .0), q .1, (c .before .before .before .before .before .before .before .before .passes-at .ensures .1, c .before .before .before .before .before .before .before .before .before .before .before .before .before .before .before .before .before .before .pre .1 .0 .breaks-low))))
 
--- src/lib.rt:675:1
+-- src/lib.rt:715:1
 loop-at-same-length-3 : (t : ℕ) → loop-at-lts.Need-same-length-3 (
   mark-height-reads.Asked,
   mark-height-reads.Learnt,
@@ -1387,7 +1147,7 @@ loop-at-same-length-3 : (t : ℕ) → loop-at-lts.Need-same-length-3 (
 ) (loop-at-at t) loop-at.Post
 loop-at-same-length-3 t c = search needs
 
--- src/lib.rt:675:1
+-- src/lib.rt:715:1
 loop-at-same-length-4 : (t : ℕ) → loop-at-lts.Need-same-length-4 (
   mark-height-reads.Asked,
   mark-height-reads.Learnt,
@@ -1396,7 +1156,7 @@ loop-at-same-length-4 : (t : ℕ) → loop-at-lts.Need-same-length-4 (
 ) (loop-at-at t) loop-at.Post
 loop-at-same-length-4 t c = search needs
 
--- src/lib.rt:675:1
+-- src/lib.rt:715:1
 loop-at-returns-2 : (t : ℕ) → loop-at-lts.Need-returns-2 (
   mark-height-reads.Asked,
   mark-height-reads.Learnt,
@@ -1406,13 +1166,122 @@ loop-at-returns-2 : (t : ℕ) → loop-at-lts.Need-returns-2 (
 unfolding Outcomes.onwardOf
 loop-at-returns-2 t c = (Cycle.loop-after (c .before .before .before .before .before .before .before .before .before .before .before .before .before .before .before .before .before .args .t .now) (c .before .before .before .before .before .before .before .before .before .before .before .before .before .before .before .before .before .args .x) (c .before .before .before .before .before .before .before .before .before .before .before .before .before .before .before .before .before .args .target) (c .before .before .before .before .before .before .before .before .before .before .before .before .before .before .before .before .before .args .ip) (c .before .before .before .before .before .before .before .before .before .before .before .before .before .before .before .before .before .args .end) (c .before .before .before .before .before .before .before .before .before .before .before .before .before .before .before .before .before .args .floor) (c .before .before .before .before .before .before .before .before .before .before .before .before .before .before .before .before .before .args .s) (c .before .before .before .before .before .before .before .before .before .before .before .before .before .before .before .before .before .args .b) (c .before .before .before .before .before .before .before .before .before .before .before .before .before .before .before .before .before .args .heights .now) (c .before .before .before .before .before .before .before .before .before .before .before .before .before .before .before .before .before .args .blinds .now) _ (c .before .before .before .before .before .before .before .before .before .before .before .before .before .before .before .before .before .pre .1 .0 .placed .of .first) (c .before .before .before .before .before .before .before .before .before .before .before .before .before .before .before .before .before .pre .1 .1 .1) (c .before .before .before .before .before .before .before .before .before .before .before .before .mark-height .ensures) (c .before .before .before .before .before .before .before .passes-at .result) _ (c .before .before .before .before .before .before .before .passes-at .ensures .0) (c .enum-told .given .1), (let q = Cycle.loop-in (c .before .before .before .before .before .before .before .before .before .before .before .before .before .before .before .before .before .args .t .now) (c .before .before .before .before .before .before .before .before .before .before .before .before .before .before .before .before .before .args .heights .now) (c .before .before .before .before .before .before .before .before .before .before .before .before .before .before .before .before .before .args .blinds .now) (c .before .before .before .before .before .before .before .before .before .before .before .before .before .before .before .before .before .args .x) (c .before .before .before .before .before .before .before .before .before .before .before .before .before .before .before .before .before .args .target) (c .before .before .before .before .before .before .before .before .before .before .before .before .before .before .before .before .before .args .ip) (c .before .before .before .before .before .before .before .before .before .before .before .before .before .before .before .before .before .args .end) (c .before .before .before .before .before .before .before .before .before .before .before .before .before .before .before .before .before .args .floor) _ _ (c .before .before .before .before .before .before .before .before .before .before .before .before .before .before .before .before .before .pre .1 .0) (c .before .before .before .before .before .before .before .before .before .before .before .before .before .before .before .before .before .pre .1 .1 .0) (c .before .before .before .before .before .before .before .before .before .before .before .before .before .before .before .before .before .pre .1 .1 .1) in (omega (arith, q .0), q .1, (c .before .before .before .before .before .before .before .passes-at .ensures .1, c .before .before .before .before .before .before .before .before .before .before .before .before .before .before .before .before .before .pre .1 .0 .breaks-low))))
 
+-- src/lib.rt:650:50
+one-arm-add-interp-region : (t : ℕ) → one-arm-lts.Need-add-interp-region (
+  interp-region-below t,
+  interp-region.Post,
+  join-ends-reads.Asked,
+  join-ends-reads.Learnt,
+) (one-arm-at t) one-arm.Post
+one-arm-add-interp-region t c = search needs
+
+-- src/lib.rt:650:9
+one-arm-interp-region-requires : (t : ℕ) → one-arm-lts.Need-interp-region-requires (
+  interp-region-below t,
+  interp-region.Post,
+  join-ends-reads.Asked,
+  join-ends-reads.Learnt,
+) (one-arm-at t) one-arm.Post
+one-arm-interp-region-requires t c κs = let q = Cycle.one-arm-in (c .before .before .before .before .before .args .t .now) (c .before .before .before .before .before .args .heights .now) (c .before .before .before .before .before .args .blinds .now) (c .before .before .before .before .before .args .x) (c .before .before .before .before .before .args .target) (c .before .before .before .before .before .args .ip) (c .before .before .before .before .before .args .end) (c .before .before .before .before .before .args .floor) _ _ (c .before .before .before .before .before .pre .1 .0) (c .before .before .before .before .before .pre .1 .1 .0) (c .before .before .before .before .before .pre .1 .1 .1) (c .before .before .before .before .before .pre .1 .1 .2) in (omega (arith, q .0, q .1, c .before .before .before .before .before .pre .0), record { placed = c .before .before .before .before .before .pre .1 .0 .placed; from = c .before .before .before .before .before .args .ip + 1; arm = q .2; after = omega arith; before = omega (arith, q .0); floor-low = c .before .before .before .before .before .pre .1 .0 .floor-low; height-low = c .before .before .before .before .before .pre .1 .0 .height-low; breaks-low = c .before .before .before .before .before .pre .1 .0 .breaks-low })
+
+-- src/lib.rt:654:19
+one-arm-enum-told : (t : ℕ) → one-arm-lts.Need-enum-told (
+  interp-region-below t,
+  interp-region.Post,
+  join-ends-reads.Asked,
+  join-ends-reads.Learnt,
+) (one-arm-at t) one-arm.Post
+one-arm-enum-told t c = search needs
+
+-- src/lib.rt:654:19
+one-arm-add-t22 : (t : ℕ) → one-arm-lts.Need-add-t22 (
+  interp-region-below t,
+  interp-region.Post,
+  join-ends-reads.Asked,
+  join-ends-reads.Learnt,
+) (one-arm-at t) one-arm.Post
+one-arm-add-t22 t c = let q = Cycle.one-arm-in (c .before .before .before .before .before .before .before .before .before .before .before .before .args .t .now) (c .before .before .before .before .before .before .before .before .before .before .before .before .args .heights .now) (c .before .before .before .before .before .before .before .before .before .before .before .before .args .blinds .now) (c .before .before .before .before .before .before .before .before .before .before .before .before .args .x) (c .before .before .before .before .before .before .before .before .before .before .before .before .args .target) (c .before .before .before .before .before .before .before .before .before .before .before .before .args .ip) (c .before .before .before .before .before .before .before .before .before .before .before .before .args .end) (c .before .before .before .before .before .before .before .before .before .before .before .before .args .floor) _ _ (c .before .before .before .before .before .before .before .before .before .before .before .before .pre .1 .0) (c .before .before .before .before .before .before .before .before .before .before .before .before .pre .1 .1 .0) (c .before .before .before .before .before .before .before .before .before .before .before .before .pre .1 .1 .1) (c .before .before .before .before .before .before .before .before .before .before .before .before .pre .1 .1 .2) in omega (arith, q .1, c .before .before .before .before .before .before .before .before .before .before .before .before .fits)
+
+-- src/lib.rt:653:9
+one-arm-same-length : (t : ℕ) → one-arm-lts.Need-same-length (
+  interp-region-below t,
+  interp-region.Post,
+  join-ends-reads.Asked,
+  join-ends-reads.Learnt,
+) (one-arm-at t) one-arm.Post
+one-arm-same-length t c = search needs
+
+-- src/lib.rt:653:9
+one-arm-same-length-2 : (t : ℕ) → one-arm-lts.Need-same-length-2 (
+  interp-region-below t,
+  interp-region.Post,
+  join-ends-reads.Asked,
+  join-ends-reads.Learnt,
+) (one-arm-at t) one-arm.Post
+one-arm-same-length-2 t c = search needs
+
+-- src/lib.rt:653:9
+one-arm-returns : (t : ℕ) → one-arm-lts.Need-returns (
+  interp-region-below t,
+  interp-region.Post,
+  join-ends-reads.Asked,
+  join-ends-reads.Learnt,
+) (one-arm-at t) one-arm.Post
+one-arm-returns t c = (Cycle.one-refused (c .before .before .before .before .before .before .before .before .before .before .before .before .args .t .now) (c .before .before .before .before .before .before .before .before .before .before .before .before .args .x) (c .before .before .before .before .before .before .before .before .before .before .before .before .args .target) (c .before .before .before .before .before .before .before .before .before .before .before .before .args .ip) (c .before .before .before .before .before .before .before .before .before .before .before .before .args .end) (c .before .before .before .before .before .before .before .before .before .before .before .before .args .floor) (c .before .before .before .before .before .before .before .before .before .before .before .before .args .s) (c .before .before .before .before .before .before .before .before .before .before .before .before .args .b) _ _ (c .before .before .before .before .before .before .interp-region .result) (c .before .before .before .before .before .before .before .before .before .before .before .before .pre .1 .1 .2) (c .before .before .before .before .before .before .interp-region .ensures .0) ((c .before .before .before .before .before .before .before .before .before .before .before .before .args .target) + 1) (c .enum-told .given .1), (let q = Cycle.one-arm-in (c .before .before .before .before .before .before .before .before .before .before .before .before .args .t .now) (c .before .before .before .before .before .before .before .before .before .before .before .before .args .heights .now) (c .before .before .before .before .before .before .before .before .before .before .before .before .args .blinds .now) (c .before .before .before .before .before .before .before .before .before .before .before .before .args .x) (c .before .before .before .before .before .before .before .before .before .before .before .before .args .target) (c .before .before .before .before .before .before .before .before .before .before .before .before .args .ip) (c .before .before .before .before .before .before .before .before .before .before .before .before .args .end) (c .before .before .before .before .before .before .before .before .before .before .before .before .args .floor) _ _ (c .before .before .before .before .before .before .before .before .before .before .before .before .pre .1 .0) (c .before .before .before .before .before .before .before .before .before .before .before .before .pre .1 .1 .0) (c .before .before .before .before .before .before .before .before .before .before .before .before .pre .1 .1 .1) (c .before .before .before .before .before .before .before .before .before .before .before .before .pre .1 .1 .2) in (omega (arith, q .0), omega (arith, q .1), c .before .before .before .before .before .before .interp-region .ensures .1)))
+
+-- src/lib.rt:664:9
+one-arm-join-ends-requires : (t : ℕ) → one-arm-lts.Need-join-ends-requires (
+  interp-region-below t,
+  interp-region.Post,
+  join-ends-reads.Asked,
+  join-ends-reads.Learnt,
+) (one-arm-at t) one-arm.Post
+one-arm-join-ends-requires t c κs = (c .before .before .before .before .before .before .interp-region .ensures .1 .0, c .before .before .before .before .before .before .before .before .before .before .before .before .pre .1 .0 .height-low, c .before .before .before .before .before .before .interp-region .ensures .1 .1, omega (arith, c .before .before .before .before .before .before .before .before .before .before .before .before .pre .1 .0 .placed .of .locals, locals-low (c .before .before .before .before .before .before .before .before .before .before .before .before .args .t .now) (c .before .before .before .before .before .before .before .before .before .before .before .before .args .x .chunk)), (Laws.open-by (c .before .before .before .before .before .before .interp-region .result .flow) (c .before .match .keys2)), tt)
+
+-- src/lib.rt:666:15
+one-arm-add-t21 : (t : ℕ) → one-arm-lts.Need-add-t21 (
+  interp-region-below t,
+  interp-region.Post,
+  join-ends-reads.Asked,
+  join-ends-reads.Learnt,
+) (one-arm-at t) one-arm.Post
+one-arm-add-t21 t c = let q = Cycle.one-arm-in (c .before .before .before .before .before .before .before .before .before .before .before .before .before .args .t .now) (c .before .before .before .before .before .before .before .before .before .before .before .before .before .args .heights .now) (c .before .before .before .before .before .before .before .before .before .before .before .before .before .args .blinds .now) (c .before .before .before .before .before .before .before .before .before .before .before .before .before .args .x) (c .before .before .before .before .before .before .before .before .before .before .before .before .before .args .target) (c .before .before .before .before .before .before .before .before .before .before .before .before .before .args .ip) (c .before .before .before .before .before .before .before .before .before .before .before .before .before .args .end) (c .before .before .before .before .before .before .before .before .before .before .before .before .before .args .floor) _ _ (c .before .before .before .before .before .before .before .before .before .before .before .before .before .pre .1 .0) (c .before .before .before .before .before .before .before .before .before .before .before .before .before .pre .1 .1 .0) (c .before .before .before .before .before .before .before .before .before .before .before .before .before .pre .1 .1 .1) (c .before .before .before .before .before .before .before .before .before .before .before .before .before .pre .1 .1 .2) in omega (arith, q .1, c .before .before .before .before .before .before .before .before .before .before .before .before .before .fits)
+
+-- src/lib.rt:633:1
+one-arm-same-length-3 : (t : ℕ) → one-arm-lts.Need-same-length-3 (
+  interp-region-below t,
+  interp-region.Post,
+  join-ends-reads.Asked,
+  join-ends-reads.Learnt,
+) (one-arm-at t) one-arm.Post
+one-arm-same-length-3 t c = search needs
+
+-- src/lib.rt:633:1
+one-arm-same-length-4 : (t : ℕ) → one-arm-lts.Need-same-length-4 (
+  interp-region-below t,
+  interp-region.Post,
+  join-ends-reads.Asked,
+  join-ends-reads.Learnt,
+) (one-arm-at t) one-arm.Post
+one-arm-same-length-4 t c = search needs
+
+-- src/lib.rt:633:1
+one-arm-returns-2 : (t : ℕ) → one-arm-lts.Need-returns-2 (
+  interp-region-below t,
+  interp-region.Post,
+  join-ends-reads.Asked,
+  join-ends-reads.Learnt,
+) (one-arm-at t) one-arm.Post
+unfolding Outcomes.fallOf
+one-arm-returns-2 t c = (Cycle.one-joined (c .before .before .before .before .before .before .before .before .before .before .before .before .before .args .t .now) (c .before .before .before .before .before .before .before .before .before .before .before .before .before .args .x) (c .before .before .before .before .before .before .before .before .before .before .before .before .before .args .target) (c .before .before .before .before .before .before .before .before .before .before .before .before .before .args .ip) (c .before .before .before .before .before .before .before .before .before .before .before .before .before .args .end) (c .before .before .before .before .before .before .before .before .before .before .before .before .before .args .floor) (c .before .before .before .before .before .before .before .before .before .before .before .before .before .args .s) (c .before .before .before .before .before .before .before .before .before .before .before .before .before .args .b) _ _ (c .before .before .before .before .before .before .before .interp-region .result) (c .before .before .before .before .before .before .before .before .before .before .before .before .before .pre .1 .1 .2) (c .before .before .before .before .before .before .before .interp-region .ensures .0) (Laws.open-by (c .before .before .before .before .before .before .before .interp-region .result .flow) (c .before .before .match .keys2)) (c .join-ends .result) (c .join-ends .ensures .0 _), (let q = Cycle.one-arm-in (c .before .before .before .before .before .before .before .before .before .before .before .before .before .args .t .now) (c .before .before .before .before .before .before .before .before .before .before .before .before .before .args .heights .now) (c .before .before .before .before .before .before .before .before .before .before .before .before .before .args .blinds .now) (c .before .before .before .before .before .before .before .before .before .before .before .before .before .args .x) (c .before .before .before .before .before .before .before .before .before .before .before .before .before .args .target) (c .before .before .before .before .before .before .before .before .before .before .before .before .before .args .ip) (c .before .before .before .before .before .before .before .before .before .before .before .before .before .args .end) (c .before .before .before .before .before .before .before .before .before .before .before .before .before .args .floor) _ _ (c .before .before .before .before .before .before .before .before .before .before .before .before .before .pre .1 .0) (c .before .before .before .before .before .before .before .before .before .before .before .before .before .pre .1 .1 .0) (c .before .before .before .before .before .before .before .before .before .before .before .before .before .pre .1 .1 .1) (c .before .before .before .before .before .before .before .before .before .before .before .before .before .pre .1 .1 .2) in (omega (arith, q .0), omega (arith, q .1), c .join-ends .ensures .1)))
+
 abbrev passes-at-Inv-passes : passes-at-lts.InvT-passes
 passes-at-Inv-passes t heights₀ blinds₀ x ip exit locals floor no-breaks body last head₀ left₀ heights blinds head left = Cycle.Passing t x ip exit head₀ heights₀ blinds₀ heights blinds head left
 
 abbrev passes-at-μ-passes : passes-at-lts.MeasureT-passes
 passes-at-μ-passes t heights₀ blinds₀ x ip exit locals floor no-breaks body last head₀ left₀ heights blinds head left = left
 
--- src/lib.rt:737:16
+-- src/lib.rt:777:16
 passes-at-add-body : (t : ℕ) → passes-at-lts.Need-add-body (
   interp-region-below t,
   interp-region.Post,
@@ -1431,7 +1300,7 @@ passes-at-add-body : (t : ℕ) → passes-at-lts.Need-add-body (
 ) (passes-at-at t) passes-at.Post passes-at-Inv-passes passes-at-μ-passes
 passes-at-add-body t c = omega (arith, c .before .before .before .pre .1 .1 .0, c .before .before .before .pre .1 .1 .1, c .before .before .before .fits)
 
--- src/lib.rt:738:16
+-- src/lib.rt:778:16
 passes-at-sub-last : (t : ℕ) → passes-at-lts.Need-sub-last (
   interp-region-below t,
   interp-region.Post,
@@ -1450,7 +1319,7 @@ passes-at-sub-last : (t : ℕ) → passes-at-lts.Need-sub-last (
 ) (passes-at-at t) passes-at.Post passes-at-Inv-passes passes-at-μ-passes
 passes-at-sub-last t c = omega (arith, c .before .before .before .pre .1 .1 .0)
 
--- src/lib.rt:740:20
+-- src/lib.rt:780:20
 passes-at-add-left : (t : ℕ) → passes-at-lts.Need-add-left (
   interp-region-below t,
   interp-region.Post,
@@ -1469,7 +1338,7 @@ passes-at-add-left : (t : ℕ) → passes-at-lts.Need-add-left (
 ) (passes-at-at t) passes-at.Post passes-at-Inv-passes passes-at-μ-passes
 passes-at-add-left t c = omega (arith, c .before .before .before .pre .1 .0 .of .locals, locals-low (c .before .before .before .args .t .now) (c .before .before .before .args .x .chunk))
 
--- src/lib.rt:741:9
+-- src/lib.rt:781:9
 passes-at-passes-holds : (t : ℕ) → passes-at-lts.Need-passes-holds (
   interp-region-below t,
   interp-region.Post,
@@ -1488,7 +1357,7 @@ passes-at-passes-holds : (t : ℕ) → passes-at-lts.Need-passes-holds (
 ) (passes-at-at t) passes-at.Post passes-at-Inv-passes passes-at-μ-passes
 passes-at-passes-holds t c = Cycle.passing-start (c .before .before .before .args .t .now) (c .before .before .before .args .x) (c .before .before .before .args .ip) (c .before .before .before .args .exit) (c .before .before .before .args .s0) (c .before .before .before .args .heights .now) (c .before .before .before .args .blinds .now) (c .before .before .before .pre .1 .0 .of .locals) (omega (arith, c .before .before .before .pre .1 .0 .of .locals, locals-low (c .before .before .before .args .t .now) (c .before .before .before .args .x .chunk)))
 
--- src/lib.rt:742:13
+-- src/lib.rt:782:13
 passes-at-interp-region-requires : (t : ℕ) → passes-at-lts.Need-interp-region-requires (
   interp-region-below t,
   interp-region.Post,
@@ -1525,7 +1394,7 @@ passes-at-enum-told : (t : ℕ) → passes-at-lts.Need-enum-told (
 ) (passes-at-at t) passes-at.Post passes-at-Inv-passes passes-at-μ-passes
 passes-at-enum-told t c = search needs
 
--- src/lib.rt:748:31
+-- src/lib.rt:788:31
 passes-at-enum-told-2 : (t : ℕ) → passes-at-lts.Need-enum-told-2 (
   interp-region-below t,
   interp-region.Post,
@@ -1544,7 +1413,7 @@ passes-at-enum-told-2 : (t : ℕ) → passes-at-lts.Need-enum-told-2 (
 ) (passes-at-at t) passes-at.Post passes-at-Inv-passes passes-at-μ-passes
 passes-at-enum-told-2 t c = search needs
 
--- src/lib.rt:748:31
+-- src/lib.rt:788:31
 passes-at-leave-loop-requires : (t : ℕ) → passes-at-lts.Need-leave-loop-requires (
   interp-region-below t,
   interp-region.Post,
@@ -1563,7 +1432,7 @@ passes-at-leave-loop-requires : (t : ℕ) → passes-at-lts.Need-leave-loop-requ
 ) (passes-at-at t) passes-at.Post passes-at-Inv-passes passes-at-μ-passes
 passes-at-leave-loop-requires t c κs = (c .before .before .before .before .before .before .before .interp-region .ensures .1 .1, omega (arith, (c .before .before .before .before .before .before .before .before .before .before .passes .inv) .head-height, c .before .before .before .before .before .before .before .before .before .before .before .before .before .before .pre .1 .1 .2))
 
--- src/lib.rt:750:27
+-- src/lib.rt:790:27
 passes-at-enum-known-f : (t : ℕ) → passes-at-lts.Need-enum-known-f (
   interp-region-below t,
   interp-region.Post,
@@ -1582,7 +1451,7 @@ passes-at-enum-known-f : (t : ℕ) → passes-at-lts.Need-enum-known-f (
 ) (passes-at-at t) passes-at.Post passes-at-Inv-passes passes-at-μ-passes
 passes-at-enum-known-f t c = search needs
 
--- src/lib.rt:751:17
+-- src/lib.rt:791:17
 passes-at-same-length : (t : ℕ) → passes-at-lts.Need-same-length (
   interp-region-below t,
   interp-region.Post,
@@ -1601,7 +1470,7 @@ passes-at-same-length : (t : ℕ) → passes-at-lts.Need-same-length (
 ) (passes-at-at t) passes-at.Post passes-at-Inv-passes passes-at-μ-passes
 passes-at-same-length t c = search needs
 
--- src/lib.rt:751:17
+-- src/lib.rt:791:17
 passes-at-same-length-2 : (t : ℕ) → passes-at-lts.Need-same-length-2 (
   interp-region-below t,
   interp-region.Post,
@@ -1620,7 +1489,7 @@ passes-at-same-length-2 : (t : ℕ) → passes-at-lts.Need-same-length-2 (
 ) (passes-at-at t) passes-at.Post passes-at-Inv-passes passes-at-μ-passes
 passes-at-same-length-2 t c = search needs
 
--- src/lib.rt:751:17
+-- src/lib.rt:791:17
 passes-at-returns : (t : ℕ) → passes-at-lts.Need-returns (
   interp-region-below t,
   interp-region.Post,
@@ -1640,7 +1509,7 @@ passes-at-returns : (t : ℕ) → passes-at-lts.Need-returns (
 unfolding Outcomes.leavingOf
 passes-at-returns t c = (Cycle.pass-refused (c .before .before .before .before .before .before .before .before .before .before .before .before .before .before .before .args .t .now) (c .before .before .before .before .before .before .before .before .before .before .before .before .before .before .before .args .x) (c .before .before .before .before .before .before .before .before .before .before .before .before .before .before .before .args .ip) (c .before .before .before .before .before .before .before .before .before .before .before .before .before .before .before .args .exit) (c .before .before .before .before .before .before .before .before .before .before .before .before .before .before .before .args .s0) (c .before .before .before .before .before .before .before .before .before .before .before .before .before .before .before .args .heights .now) (c .before .before .before .before .before .before .before .before .before .before .before .before .before .before .before .args .blinds .now) (c .before .before .before .before .before .before .before .before .before .before .before .passes .heights) (c .before .before .before .before .before .before .before .before .before .before .before .passes .blinds) (c .before .before .before .before .before .before .before .before .before .before .before .passes .head) (c .before .before .before .before .before .before .before .before .before .before .before .passes .left) (c .before .before .before .before .before .before .before .before .before .before .before .passes .inv) (c .before .before .before .before .before .before .before .before .interp-region .result) _ _ _ refl (c .before .before .before .before .before .before .before .before .interp-region .ensures .0) (c .before .f .given .1), omega (arith, (c .before .before .before .before .before .before .before .before .before .before .before .passes .inv) .head-height, c .before .before .before .before .before .before .before .before .before .before .before .before .before .before .before .pre .1 .1 .2))
 
--- src/lib.rt:758:12
+-- src/lib.rt:798:12
 passes-at-same-stack-requires : (t : ℕ) → passes-at-lts.Need-same-stack-requires (
   interp-region-below t,
   interp-region.Post,
@@ -1659,7 +1528,7 @@ passes-at-same-stack-requires : (t : ℕ) → passes-at-lts.Need-same-stack-requ
 ) (passes-at-at t) passes-at.Post passes-at-Inv-passes passes-at-μ-passes
 passes-at-same-stack-requires t c κs = c .before .before .before .before .before .before .before .before .interp-region .ensures .1 .0
 
--- src/lib.rt:759:13
+-- src/lib.rt:799:13
 passes-at-not-neutral-requires : (t : ℕ) → passes-at-lts.Need-not-neutral-requires (
   interp-region-below t,
   interp-region.Post,
@@ -1678,7 +1547,7 @@ passes-at-not-neutral-requires : (t : ℕ) → passes-at-lts.Need-not-neutral-re
 ) (passes-at-at t) passes-at.Post passes-at-Inv-passes passes-at-μ-passes
 passes-at-not-neutral-requires t c κs = search needs
 
--- src/lib.rt:759:13
+-- src/lib.rt:799:13
 passes-at-same-length-3 : (t : ℕ) → passes-at-lts.Need-same-length-3 (
   interp-region-below t,
   interp-region.Post,
@@ -1697,7 +1566,7 @@ passes-at-same-length-3 : (t : ℕ) → passes-at-lts.Need-same-length-3 (
 ) (passes-at-at t) passes-at.Post passes-at-Inv-passes passes-at-μ-passes
 passes-at-same-length-3 t c = search needs
 
--- src/lib.rt:759:13
+-- src/lib.rt:799:13
 passes-at-same-length-4 : (t : ℕ) → passes-at-lts.Need-same-length-4 (
   interp-region-below t,
   interp-region.Post,
@@ -1716,7 +1585,7 @@ passes-at-same-length-4 : (t : ℕ) → passes-at-lts.Need-same-length-4 (
 ) (passes-at-at t) passes-at.Post passes-at-Inv-passes passes-at-μ-passes
 passes-at-same-length-4 t c = search needs
 
--- src/lib.rt:759:13
+-- src/lib.rt:799:13
 passes-at-returns-2 : (t : ℕ) → passes-at-lts.Need-returns-2 (
   interp-region-below t,
   interp-region.Post,
@@ -1735,7 +1604,7 @@ passes-at-returns-2 : (t : ℕ) → passes-at-lts.Need-returns-2 (
 ) (passes-at-at t) passes-at.Post passes-at-Inv-passes passes-at-μ-passes
 passes-at-returns-2 t c = (c .not-neutral .ensures .0 (c .before .before .before .before .before .before .before .before .before .before .before .before .before .before .before .before .before .before .args .x .locals) _ ∙ Cycle.pass-not-neutral (c .before .before .before .before .before .before .before .before .before .before .before .before .before .before .before .before .before .before .args .t .now) (c .before .before .before .before .before .before .before .before .before .before .before .before .before .before .before .before .before .before .args .x) (c .before .before .before .before .before .before .before .before .before .before .before .before .before .before .before .before .before .before .args .ip) (c .before .before .before .before .before .before .before .before .before .before .before .before .before .before .before .before .before .before .args .exit) (c .before .before .before .before .before .before .before .before .before .before .before .before .before .before .before .before .before .before .args .s0) (c .before .before .before .before .before .before .before .before .before .before .before .before .before .before .before .before .before .before .args .heights .now) (c .before .before .before .before .before .before .before .before .before .before .before .before .before .before .before .before .before .before .args .blinds .now) (c .before .before .before .before .before .before .before .before .before .before .before .before .before .before .passes .heights) (c .before .before .before .before .before .before .before .before .before .before .before .before .before .before .passes .blinds) (c .before .before .before .before .before .before .before .before .before .before .before .before .before .before .passes .head) (c .before .before .before .before .before .before .before .before .before .before .before .before .before .before .passes .left) (c .before .before .before .before .before .before .before .before .before .before .before .before .before .before .passes .inv) (c .before .before .before .before .before .before .before .before .before .before .before .interp-region .result) _ _ _ refl (c .before .before .before .before .before .before .before .before .before .before .before .interp-region .ensures .0) (c .before .before .before .before .enum-told .given .1) (sym (c .before .before .same-stack .ensures) ∙ c .before .if1 .left), subst (λ (z : State). z .height ≤ 64) (sym (c .not-neutral .ensures .1)) (omega (arith, (c .before .before .before .before .before .before .before .before .before .before .before .before .before .before .passes .inv) .head-height, c .before .before .before .before .before .before .before .before .before .before .before .before .before .before .before .before .before .before .pre .1 .1 .2)))
 
--- src/lib.rt:761:12
+-- src/lib.rt:801:12
 passes-at-covers-locals-requires : (t : ℕ) → passes-at-lts.Need-covers-locals-requires (
   interp-region-below t,
   interp-region.Post,
@@ -1754,7 +1623,7 @@ passes-at-covers-locals-requires : (t : ℕ) → passes-at-lts.Need-covers-local
 ) (passes-at-at t) passes-at.Post passes-at-Inv-passes passes-at-μ-passes
 passes-at-covers-locals-requires t c κs = omega (arith, c .before .before .before .before .before .before .before .before .before .before .before .before .before .before .before .before .before .pre .1 .0 .of .locals, locals-low (c .before .before .before .before .before .before .before .before .before .before .before .before .before .before .before .before .before .args .t .now) (c .before .before .before .before .before .before .before .before .before .before .before .before .before .before .before .before .before .args .x .chunk))
 
--- src/lib.rt:762:27
+-- src/lib.rt:802:27
 passes-at-leave-loop-requires-2 : (t : ℕ) → passes-at-lts.Need-leave-loop-requires-2 (
   interp-region-below t,
   interp-region.Post,
@@ -1773,7 +1642,7 @@ passes-at-leave-loop-requires-2 : (t : ℕ) → passes-at-lts.Need-leave-loop-re
 ) (passes-at-at t) passes-at.Post passes-at-Inv-passes passes-at-μ-passes
 passes-at-leave-loop-requires-2 t c κs = (c .before .before .before .before .before .before .before .before .before .before .before .before .interp-region .ensures .1 .1, c .before .before .before .before .before .before .before .before .before .before .before .before .interp-region .ensures .1 .0)
 
--- src/lib.rt:765:27
+-- src/lib.rt:805:27
 passes-at-last-pass-requires : (t : ℕ) → passes-at-lts.Need-last-pass-requires (
   interp-region-below t,
   interp-region.Post,
@@ -1792,7 +1661,7 @@ passes-at-last-pass-requires : (t : ℕ) → passes-at-lts.Need-last-pass-requir
 ) (passes-at-at t) passes-at.Post passes-at-Inv-passes passes-at-μ-passes
 passes-at-last-pass-requires t c κs = (omega (arith, c .before .before .before .before .before .before .before .before .before .before .before .before .before .before .before .before .before .before .before .before .before .before .pre .0, c .before .before .before .before .before .before .before .before .before .before .before .before .before .before .before .before .before .before .before .before .before .before .pre .1 .1 .0), (Cycle.placed-by (c .before .before .before .before .before .before .before .before .before .before .before .before .before .before .before .before .before .before .before .before .before .before .args .t .now) (c .before .before .before .before .before .before .before .before .before .before .before .before .before .before .before .before .before .before .before .before .before .before .args .heights .now) (c .before .before .before .before .before .before .before .before .before .before .before .before .before .before .before .before .before .before .before .before .before .before .args .blinds .now) _ _ (c .before .before .before .before .before .before .before .before .before .before .before .before .before .before .before .before .before .before .before .before .before .before .args .x) (c .before .before .before .before .before .before .before .before .before .before .before .before .before .before .before .interp-region .kept .1 .0 ∙ (c .before .before .before .before .before .before .before .before .before .before .before .before .before .before .before .before .before .before .passes .inv) .heights-same) (c .before .before .before .before .before .before .before .before .before .before .before .before .before .before .before .interp-region .kept .1 .1 .0 ∙ (c .before .before .before .before .before .before .before .before .before .before .before .before .before .before .before .before .before .before .passes .inv) .blinds-same) (c .before .before .before .before .before .before .before .before .before .before .before .before .before .before .before .before .before .before .before .before .before .before .pre .1 .0), (c .before .before .before .before .before .before .before .before .before .before .before .before .before .before .before .before .before .before .before .before .before .before .pre .1 .1 .0, c .before .before .before .before .before .before .before .before .before .before .before .before .before .before .before .before .before .before .before .before .before .before .pre .1 .1 .1, c .before .before .before .before .before .before .before .before .before .before .before .before .before .before .before .before .before .before .before .before .before .before .pre .1 .1 .2, omega (arith, (c .before .before .before .before .before .before .before .before .before .before .before .before .before .before .before .before .before .before .passes .inv) .head-height, c .before .before .before .before .before .before .before .before .before .before .before .before .before .before .before .before .before .before .before .before .before .before .pre .1 .1 .2), c .before .before .before .before .before .before .before .before .before .before .before .before .before .before .before .before .before .before .before .before .before .before .pre .1 .1 .3)))
 
--- src/lib.rt:767:9
+-- src/lib.rt:807:9
 passes-at-join-locals-requires : (t : ℕ) → passes-at-lts.Need-join-locals-requires (
   interp-region-below t,
   interp-region.Post,
@@ -1811,7 +1680,7 @@ passes-at-join-locals-requires : (t : ℕ) → passes-at-lts.Need-join-locals-re
 ) (passes-at-at t) passes-at.Post passes-at-Inv-passes passes-at-μ-passes
 passes-at-join-locals-requires t c κs = (omega (arith, (c .before .before .before .before .before .before .before .before .before .before .before .before .before .before .before .before .passes .inv) .head-height, c .before .before .before .before .before .before .before .before .before .before .before .before .before .before .before .before .before .before .before .before .pre .1 .1 .2), omega (arith, c .before .before .before .before .before .before .before .before .before .before .before .before .before .before .before .before .before .before .before .before .pre .1 .0 .of .locals, locals-low (c .before .before .before .before .before .before .before .before .before .before .before .before .before .before .before .before .before .before .before .before .args .t .now) (c .before .before .before .before .before .before .before .before .before .before .before .before .before .before .before .before .before .before .before .before .args .x .chunk)))
 
--- src/lib.rt:768:9
+-- src/lib.rt:808:9
 passes-at-sub-left : (t : ℕ) → passes-at-lts.Need-sub-left (
   interp-region-below t,
   interp-region.Post,
@@ -1830,7 +1699,7 @@ passes-at-sub-left : (t : ℕ) → passes-at-lts.Need-sub-left (
 ) (passes-at-at t) passes-at.Post passes-at-Inv-passes passes-at-μ-passes
 passes-at-sub-left t c = omega (arith, c .before .if3 .left)
 
--- src/lib.rt:741:9
+-- src/lib.rt:781:9
 passes-at-passes-less : (t : ℕ) → passes-at-lts.Need-passes-less (
   interp-region-below t,
   interp-region.Post,
@@ -1849,7 +1718,7 @@ passes-at-passes-less : (t : ℕ) → passes-at-lts.Need-passes-less (
 ) (passes-at-at t) passes-at.Post passes-at-Inv-passes passes-at-μ-passes
 passes-at-passes-less t c = omega (arith, c .before .if3 .left)
 
--- src/lib.rt:741:9
+-- src/lib.rt:781:9
 passes-at-passes-again : (t : ℕ) → passes-at-lts.Need-passes-again (
   interp-region-below t,
   interp-region.Post,
@@ -1869,7 +1738,7 @@ passes-at-passes-again : (t : ℕ) → passes-at-lts.Need-passes-again (
 unfolding covers-all
 passes-at-passes-again t c = Cycle.pass-again (c .before .before .before .before .before .before .before .before .before .before .before .before .before .before .before .before .before .before .before .before .before .args .t .now) (c .before .before .before .before .before .before .before .before .before .before .before .before .before .before .before .before .before .before .before .before .before .args .x) (c .before .before .before .before .before .before .before .before .before .before .before .before .before .before .before .before .before .before .before .before .before .args .ip) (c .before .before .before .before .before .before .before .before .before .before .before .before .before .before .before .before .before .before .before .before .before .args .exit) (c .before .before .before .before .before .before .before .before .before .before .before .before .before .before .before .before .before .before .before .before .before .args .s0) (c .before .before .before .before .before .before .before .before .before .before .before .before .before .before .before .before .before .before .before .before .before .args .heights .now) (c .before .before .before .before .before .before .before .before .before .before .before .before .before .before .before .before .before .before .before .before .before .args .blinds .now) (c .before .before .before .before .before .before .before .before .before .before .before .before .before .before .before .before .before .passes .heights) (c .before .before .before .before .before .before .before .before .before .before .before .before .before .before .before .before .before .passes .blinds) (c .before .before .before .before .before .before .before .before .before .before .before .before .before .before .before .before .before .passes .head) (c .before .before .before .before .before .before .before .before .before .before .before .before .before .before .before .before .before .passes .left) (c .before .before .before .before .before .before .before .before .before .before .before .before .before .before .before .before .before .passes .inv) (c .before .before .before .before .before .before .before .before .before .before .before .before .before .before .interp-region .result) _ _ _ refl (c .before .before .before .before .before .before .before .before .before .before .before .before .before .before .interp-region .ensures .0) (c .before .before .before .before .before .before .before .enum-told .given .1) (sym (c .before .before .before .before .before .same-stack .ensures) ∙ c .before .before .before .before .if1 .taken) (sym (c .before .before .before .covers-locals .ensures) ∙ c .before .before .if2 .left) (c .before .if3 .left) (c .join-locals .result) (c .join-locals .ensures .0) (c .join-locals .ensures .1) (c .before .before .before .before .before .before .before .before .before .before .before .before .before .before .interp-region .kept .1 .0) (c .before .before .before .before .before .before .before .before .before .before .before .before .before .before .interp-region .kept .1 .1 .0)
 
--- src/lib.rt:718:1
+-- src/lib.rt:758:1
 passes-at-same-length-5 : (t : ℕ) → passes-at-lts.Need-same-length-5 (
   interp-region-below t,
   interp-region.Post,
@@ -1888,7 +1757,7 @@ passes-at-same-length-5 : (t : ℕ) → passes-at-lts.Need-same-length-5 (
 ) (passes-at-at t) passes-at.Post passes-at-Inv-passes passes-at-μ-passes
 passes-at-same-length-5 t c = search needs
 
--- src/lib.rt:718:1
+-- src/lib.rt:758:1
 passes-at-same-length-6 : (t : ℕ) → passes-at-lts.Need-same-length-6 (
   interp-region-below t,
   interp-region.Post,
@@ -1907,7 +1776,7 @@ passes-at-same-length-6 : (t : ℕ) → passes-at-lts.Need-same-length-6 (
 ) (passes-at-at t) passes-at.Post passes-at-Inv-passes passes-at-μ-passes
 passes-at-same-length-6 t c = search needs
 
--- src/lib.rt:718:1
+-- src/lib.rt:758:1
 passes-at-returns-3 : (t : ℕ) → passes-at-lts.Need-returns-3 (
   interp-region-below t,
   interp-region.Post,
@@ -1926,7 +1795,7 @@ passes-at-returns-3 : (t : ℕ) → passes-at-lts.Need-returns-3 (
 ) (passes-at-at t) passes-at.Post passes-at-Inv-passes passes-at-μ-passes
 passes-at-returns-3 t c = (c .leave-loop .ensures .0 _ ∙ Cycle.pass-no-end (c .before .before .before .before .before .before .before .before .before .before .before .before .before .before .before .args .t .now) (c .before .before .before .before .before .before .before .before .before .before .before .before .before .before .before .args .x) (c .before .before .before .before .before .before .before .before .before .before .before .before .before .before .before .args .ip) (c .before .before .before .before .before .before .before .before .before .before .before .before .before .before .before .args .exit) (c .before .before .before .before .before .before .before .before .before .before .before .before .before .before .before .args .s0) (c .before .before .before .before .before .before .before .before .before .before .before .before .before .before .before .args .heights .now) (c .before .before .before .before .before .before .before .before .before .before .before .before .before .before .before .args .blinds .now) (c .before .before .before .before .before .before .before .before .before .before .before .passes .heights) (c .before .before .before .before .before .before .before .before .before .before .before .passes .blinds) (c .before .before .before .before .before .before .before .before .before .before .before .passes .head) (c .before .before .before .before .before .before .before .before .before .before .before .passes .left) (c .before .before .before .before .before .before .before .before .before .before .before .passes .inv) (c .before .before .before .before .before .before .before .before .interp-region .result) _ _ _ refl (c .before .before .before .before .before .before .before .before .interp-region .ensures .0) (c .before .enum-told2 .given .1), c .leave-loop .ensures .1)
 
--- src/lib.rt:718:1
+-- src/lib.rt:758:1
 passes-at-same-length-7 : (t : ℕ) → passes-at-lts.Need-same-length-7 (
   interp-region-below t,
   interp-region.Post,
@@ -1945,7 +1814,7 @@ passes-at-same-length-7 : (t : ℕ) → passes-at-lts.Need-same-length-7 (
 ) (passes-at-at t) passes-at.Post passes-at-Inv-passes passes-at-μ-passes
 passes-at-same-length-7 t c = search needs
 
--- src/lib.rt:718:1
+-- src/lib.rt:758:1
 passes-at-same-length-8 : (t : ℕ) → passes-at-lts.Need-same-length-8 (
   interp-region-below t,
   interp-region.Post,
@@ -1964,7 +1833,7 @@ passes-at-same-length-8 : (t : ℕ) → passes-at-lts.Need-same-length-8 (
 ) (passes-at-at t) passes-at.Post passes-at-Inv-passes passes-at-μ-passes
 passes-at-same-length-8 t c = search needs
 
--- src/lib.rt:718:1
+-- src/lib.rt:758:1
 passes-at-returns-4 : (t : ℕ) → passes-at-lts.Need-returns-4 (
   interp-region-below t,
   interp-region.Post,
@@ -1984,7 +1853,7 @@ passes-at-returns-4 : (t : ℕ) → passes-at-lts.Need-returns-4 (
 unfolding covers-all
 passes-at-returns-4 t c = (c .leave-loop2 .ensures .0 _ ∙ Cycle.pass-stable (c .before .before .before .before .before .before .before .before .before .before .before .before .before .before .before .before .before .before .before .before .args .t .now) (c .before .before .before .before .before .before .before .before .before .before .before .before .before .before .before .before .before .before .before .before .args .x) (c .before .before .before .before .before .before .before .before .before .before .before .before .before .before .before .before .before .before .before .before .args .ip) (c .before .before .before .before .before .before .before .before .before .before .before .before .before .before .before .before .before .before .before .before .args .exit) (c .before .before .before .before .before .before .before .before .before .before .before .before .before .before .before .before .before .before .before .before .args .s0) (c .before .before .before .before .before .before .before .before .before .before .before .before .before .before .before .before .before .before .before .before .args .heights .now) (c .before .before .before .before .before .before .before .before .before .before .before .before .before .before .before .before .before .before .before .before .args .blinds .now) (c .before .before .before .before .before .before .before .before .before .before .before .before .before .before .before .before .passes .heights) (c .before .before .before .before .before .before .before .before .before .before .before .before .before .before .before .before .passes .blinds) (c .before .before .before .before .before .before .before .before .before .before .before .before .before .before .before .before .passes .head) (c .before .before .before .before .before .before .before .before .before .before .before .before .before .before .before .before .passes .left) (c .before .before .before .before .before .before .before .before .before .before .before .before .before .before .before .before .passes .inv) (c .before .before .before .before .before .before .before .before .before .before .before .before .before .interp-region .result) _ _ _ refl (c .before .before .before .before .before .before .before .before .before .before .before .before .before .interp-region .ensures .0) (c .before .before .before .before .before .before .enum-told .given .1) (sym (c .before .before .before .before .same-stack .ensures) ∙ c .before .before .before .if1 .taken) (sym (c .before .before .covers-locals .ensures) ∙ c .before .if2 .taken), c .leave-loop2 .ensures .1)
 
--- src/lib.rt:718:1
+-- src/lib.rt:758:1
 passes-at-same-length-9 : (t : ℕ) → passes-at-lts.Need-same-length-9 (
   interp-region-below t,
   interp-region.Post,
@@ -2003,7 +1872,7 @@ passes-at-same-length-9 : (t : ℕ) → passes-at-lts.Need-same-length-9 (
 ) (passes-at-at t) passes-at.Post passes-at-Inv-passes passes-at-μ-passes
 passes-at-same-length-9 t c = c .before .before .before .before .last-pass .kept .1 .0 ∙ (c .before .before .before .before .before .before .before .before .before .before .before .before .before .before .before .before .before .before .before .before .interp-region .kept .1 .0 ∙ (c .before .before .before .before .before .before .before .before .before .before .before .before .before .before .before .before .before .before .before .before .before .before .before .passes .inv) .heights-same)
 
--- src/lib.rt:718:1
+-- src/lib.rt:758:1
 passes-at-same-length-10 : (t : ℕ) → passes-at-lts.Need-same-length-10 (
   interp-region-below t,
   interp-region.Post,
@@ -2022,7 +1891,7 @@ passes-at-same-length-10 : (t : ℕ) → passes-at-lts.Need-same-length-10 (
 ) (passes-at-at t) passes-at.Post passes-at-Inv-passes passes-at-μ-passes
 passes-at-same-length-10 t c = c .before .before .before .before .last-pass .kept .1 .1 .0 ∙ (c .before .before .before .before .before .before .before .before .before .before .before .before .before .before .before .before .before .before .before .before .interp-region .kept .1 .1 .0 ∙ (c .before .before .before .before .before .before .before .before .before .before .before .before .before .before .before .before .before .before .before .before .before .before .before .passes .inv) .blinds-same)
 
--- src/lib.rt:718:1
+-- src/lib.rt:758:1
 passes-at-returns-5 : (t : ℕ) → passes-at-lts.Need-returns-5 (
   interp-region-below t,
   interp-region.Post,
@@ -2042,9 +1911,180 @@ passes-at-returns-5 : (t : ℕ) → passes-at-lts.Need-returns-5 (
 unfolding covers-all
 passes-at-returns-5 t c = (c .before .before .before .before .last-pass .ensures .0 ∙ Cycle.pass-last (c .before .before .before .before .before .before .before .before .before .before .before .before .before .before .before .before .before .before .before .before .before .before .before .before .before .before .before .args .t .now) (c .before .before .before .before .before .before .before .before .before .before .before .before .before .before .before .before .before .before .before .before .before .before .before .before .before .before .before .args .x) (c .before .before .before .before .before .before .before .before .before .before .before .before .before .before .before .before .before .before .before .before .before .before .before .before .before .before .before .args .ip) (c .before .before .before .before .before .before .before .before .before .before .before .before .before .before .before .before .before .before .before .before .before .before .before .before .before .before .before .args .exit) (c .before .before .before .before .before .before .before .before .before .before .before .before .before .before .before .before .before .before .before .before .before .before .before .before .before .before .before .args .s0) (c .before .before .before .before .before .before .before .before .before .before .before .before .before .before .before .before .before .before .before .before .before .before .before .before .before .before .before .args .heights .now) (c .before .before .before .before .before .before .before .before .before .before .before .before .before .before .before .before .before .before .before .before .before .before .before .before .before .before .before .args .blinds .now) (c .before .before .before .before .before .before .before .before .before .before .before .before .before .before .before .before .before .before .before .before .before .before .before .passes .heights) (c .before .before .before .before .before .before .before .before .before .before .before .before .before .before .before .before .before .before .before .before .before .before .before .passes .blinds) (c .before .before .before .before .before .before .before .before .before .before .before .before .before .before .before .before .before .before .before .before .before .before .before .passes .head) (c .before .before .before .before .before .before .before .before .before .before .before .before .before .before .before .before .before .before .before .before .before .before .before .passes .left) (c .before .before .before .before .before .before .before .before .before .before .before .before .before .before .before .before .before .before .before .before .before .before .before .passes .inv) (c .before .before .before .before .before .before .before .before .before .before .before .before .before .before .before .before .before .before .before .before .interp-region .result) _ _ _ refl (c .before .before .before .before .before .before .before .before .before .before .before .before .before .before .before .before .before .before .before .before .interp-region .ensures .0) (c .before .before .before .before .before .before .before .before .before .before .before .before .before .enum-told .given .1) (sym (c .before .before .before .before .before .before .before .before .before .before .before .same-stack .ensures) ∙ c .before .before .before .before .before .before .before .before .before .before .if1 .taken) (sym (c .before .before .before .before .before .before .before .before .before .covers-locals .ensures) ∙ c .before .before .before .before .before .before .before .before .if2 .left) (c .before .before .before .before .before .before .before .if3 .taken), c .before .before .before .before .last-pass .ensures .1)
 
-pub +arms-at+block-at+if-at+interp-region+last-pass+loop-at+passes-at-spec :
+-- src/lib.rt:690:50
+two-arms-add-interp-region : (t : ℕ) → two-arms-lts.Need-add-interp-region (
+  interp-region-below t,
+  interp-region.Post,
+  join-ends-reads.Asked,
+  join-ends-reads.Learnt,
+) (two-arms-at t) two-arms.Post
+two-arms-add-interp-region t c = search needs
+
+-- src/lib.rt:690:58
+two-arms-sub-interp-region : (t : ℕ) → two-arms-lts.Need-sub-interp-region (
+  interp-region-below t,
+  interp-region.Post,
+  join-ends-reads.Asked,
+  join-ends-reads.Learnt,
+) (two-arms-at t) two-arms.Post
+two-arms-sub-interp-region t c = let q = Cycle.two-arms-in (c .before .before .before .before .before .args .t .now) (c .before .before .before .before .before .args .heights .now) (c .before .before .before .before .before .args .blinds .now) (c .before .before .before .before .before .args .x) (c .before .before .before .before .before .args .target) (c .before .before .before .before .before .args .ip) (c .before .before .before .before .before .args .end) (c .before .before .before .before .before .args .floor) _ _ (c .before .before .before .before .before .pre .1 .0) (c .before .before .before .before .before .pre .1 .1 .0) (c .before .before .before .before .before .pre .1 .1 .1) (c .before .before .before .before .before .args .closer) (c .before .before .before .before .before .pre .1 .1 .2) in omega (arith, q .0)
+
+-- src/lib.rt:690:9
+two-arms-interp-region-requires : (t : ℕ) → two-arms-lts.Need-interp-region-requires (
+  interp-region-below t,
+  interp-region.Post,
+  join-ends-reads.Asked,
+  join-ends-reads.Learnt,
+) (two-arms-at t) two-arms.Post
+two-arms-interp-region-requires t c κs = let q = Cycle.two-arms-in (c .before .before .before .before .before .args .t .now) (c .before .before .before .before .before .args .heights .now) (c .before .before .before .before .before .args .blinds .now) (c .before .before .before .before .before .args .x) (c .before .before .before .before .before .args .target) (c .before .before .before .before .before .args .ip) (c .before .before .before .before .before .args .end) (c .before .before .before .before .before .args .floor) _ _ (c .before .before .before .before .before .pre .1 .0) (c .before .before .before .before .before .pre .1 .1 .0) (c .before .before .before .before .before .pre .1 .1 .1) (c .before .before .before .before .before .args .closer) (c .before .before .before .before .before .pre .1 .1 .2) in (omega (arith, q .0, q .1, q .2, c .before .before .before .before .before .pre .0), record { placed = c .before .before .before .before .before .pre .1 .0 .placed; from = c .before .before .before .before .before .args .ip + 1; arm = q .3; after = omega arith; before = omega (arith, q .0); floor-low = c .before .before .before .before .before .pre .1 .0 .floor-low; height-low = c .before .before .before .before .before .pre .1 .0 .height-low; breaks-low = c .before .before .before .before .before .pre .1 .0 .breaks-low })
+
+-- src/lib.rt:694:19
+two-arms-enum-told : (t : ℕ) → two-arms-lts.Need-enum-told (
+  interp-region-below t,
+  interp-region.Post,
+  join-ends-reads.Asked,
+  join-ends-reads.Learnt,
+) (two-arms-at t) two-arms.Post
+two-arms-enum-told t c = search needs
+
+-- src/lib.rt:694:19
+two-arms-add-t25 : (t : ℕ) → two-arms-lts.Need-add-t25 (
+  interp-region-below t,
+  interp-region.Post,
+  join-ends-reads.Asked,
+  join-ends-reads.Learnt,
+) (two-arms-at t) two-arms.Post
+two-arms-add-t25 t c = let q = Cycle.two-arms-in (c .before .before .before .before .before .before .before .before .before .before .before .before .args .t .now) (c .before .before .before .before .before .before .before .before .before .before .before .before .args .heights .now) (c .before .before .before .before .before .before .before .before .before .before .before .before .args .blinds .now) (c .before .before .before .before .before .before .before .before .before .before .before .before .args .x) (c .before .before .before .before .before .before .before .before .before .before .before .before .args .target) (c .before .before .before .before .before .before .before .before .before .before .before .before .args .ip) (c .before .before .before .before .before .before .before .before .before .before .before .before .args .end) (c .before .before .before .before .before .before .before .before .before .before .before .before .args .floor) _ _ (c .before .before .before .before .before .before .before .before .before .before .before .before .pre .1 .0) (c .before .before .before .before .before .before .before .before .before .before .before .before .pre .1 .1 .0) (c .before .before .before .before .before .before .before .before .before .before .before .before .pre .1 .1 .1) (c .before .before .before .before .before .before .before .before .before .before .before .before .args .closer) (c .before .before .before .before .before .before .before .before .before .before .before .before .pre .1 .1 .2) in omega (arith, q .2, c .before .before .before .before .before .before .before .before .before .before .before .before .fits)
+
+-- src/lib.rt:693:9
+two-arms-same-length : (t : ℕ) → two-arms-lts.Need-same-length (
+  interp-region-below t,
+  interp-region.Post,
+  join-ends-reads.Asked,
+  join-ends-reads.Learnt,
+) (two-arms-at t) two-arms.Post
+two-arms-same-length t c = search needs
+
+-- src/lib.rt:693:9
+two-arms-same-length-2 : (t : ℕ) → two-arms-lts.Need-same-length-2 (
+  interp-region-below t,
+  interp-region.Post,
+  join-ends-reads.Asked,
+  join-ends-reads.Learnt,
+) (two-arms-at t) two-arms.Post
+two-arms-same-length-2 t c = search needs
+
+-- src/lib.rt:693:9
+two-arms-returns : (t : ℕ) → two-arms-lts.Need-returns (
+  interp-region-below t,
+  interp-region.Post,
+  join-ends-reads.Asked,
+  join-ends-reads.Learnt,
+) (two-arms-at t) two-arms.Post
+two-arms-returns t c = (Cycle.then-refused (c .before .before .before .before .before .before .before .before .before .before .before .before .args .t .now) (c .before .before .before .before .before .before .before .before .before .before .before .before .args .x) (c .before .before .before .before .before .before .before .before .before .before .before .before .args .target) (c .before .before .before .before .before .before .before .before .before .before .before .before .args .ip) (c .before .before .before .before .before .before .before .before .before .before .before .before .args .end) (c .before .before .before .before .before .before .before .before .before .before .before .before .args .floor) (c .before .before .before .before .before .before .before .before .before .before .before .before .args .s) (c .before .before .before .before .before .before .before .before .before .before .before .before .args .b) _ _ (c .before .before .before .before .before .before .interp-region .result) (c .before .before .before .before .before .before .before .before .before .before .before .before .args .closer) (c .before .before .before .before .before .before .before .before .before .before .before .before .pre .1 .1 .2) (c .before .before .before .before .before .before .interp-region .ensures .0) ((c .before .before .before .before .before .before .before .before .before .before .before .before .args .closer) + 1) (c .enum-told .given .1), (let q = Cycle.two-arms-in (c .before .before .before .before .before .before .before .before .before .before .before .before .args .t .now) (c .before .before .before .before .before .before .before .before .before .before .before .before .args .heights .now) (c .before .before .before .before .before .before .before .before .before .before .before .before .args .blinds .now) (c .before .before .before .before .before .before .before .before .before .before .before .before .args .x) (c .before .before .before .before .before .before .before .before .before .before .before .before .args .target) (c .before .before .before .before .before .before .before .before .before .before .before .before .args .ip) (c .before .before .before .before .before .before .before .before .before .before .before .before .args .end) (c .before .before .before .before .before .before .before .before .before .before .before .before .args .floor) _ _ (c .before .before .before .before .before .before .before .before .before .before .before .before .pre .1 .0) (c .before .before .before .before .before .before .before .before .before .before .before .before .pre .1 .1 .0) (c .before .before .before .before .before .before .before .before .before .before .before .before .pre .1 .1 .1) (c .before .before .before .before .before .before .before .before .before .before .before .before .args .closer) (c .before .before .before .before .before .before .before .before .before .before .before .before .pre .1 .1 .2) in (omega (arith, q .0, q .1), omega (arith, q .2), c .before .before .before .before .before .before .interp-region .ensures .1)))
+
+-- src/lib.rt:699:9
+two-arms-interp-region-requires-2 : (t : ℕ) → two-arms-lts.Need-interp-region-requires-2 (
+  interp-region-below t,
+  interp-region.Post,
+  join-ends-reads.Asked,
+  join-ends-reads.Learnt,
+) (two-arms-at t) two-arms.Post
+two-arms-interp-region-requires-2 t c κs = let q = Cycle.two-arms-in (c .before .before .before .before .before .before .before .before .before .before .before .before .before .before .args .t .now) (c .before .before .before .before .before .before .before .before .before .before .before .before .before .before .args .heights .now) (c .before .before .before .before .before .before .before .before .before .before .before .before .before .before .args .blinds .now) (c .before .before .before .before .before .before .before .before .before .before .before .before .before .before .args .x) (c .before .before .before .before .before .before .before .before .before .before .before .before .before .before .args .target) (c .before .before .before .before .before .before .before .before .before .before .before .before .before .before .args .ip) (c .before .before .before .before .before .before .before .before .before .before .before .before .before .before .args .end) (c .before .before .before .before .before .before .before .before .before .before .before .before .before .before .args .floor) _ _ (c .before .before .before .before .before .before .before .before .before .before .before .before .before .before .pre .1 .0) (c .before .before .before .before .before .before .before .before .before .before .before .before .before .before .pre .1 .1 .0) (c .before .before .before .before .before .before .before .before .before .before .before .before .before .before .pre .1 .1 .1) (c .before .before .before .before .before .before .before .before .before .before .before .before .before .before .args .closer) (c .before .before .before .before .before .before .before .before .before .before .before .before .before .before .pre .1 .1 .2) in (omega (arith, q .0, q .1, q .2, c .before .before .before .before .before .before .before .before .before .before .before .before .before .before .pre .0), record { placed = Cycle.placed-by (c .before .before .before .before .before .before .before .before .before .before .before .before .before .before .args .t .now) (c .before .before .before .before .before .before .before .before .before .before .before .before .before .before .args .heights .now) (c .before .before .before .before .before .before .before .before .before .before .before .before .before .before .args .blinds .now) _ _ (c .before .before .before .before .before .before .before .before .before .before .before .before .before .before .args .x) (c .before .before .before .before .before .before .before .before .interp-region .kept .1 .0) (c .before .before .before .before .before .before .before .before .interp-region .kept .1 .1 .0) (c .before .before .before .before .before .before .before .before .before .before .before .before .before .before .pre .1 .0 .placed); from = c .before .before .before .before .before .before .before .before .before .before .before .before .before .before .args .target; arm = q .4; after = omega arith; before = q .1; floor-low = c .before .before .before .before .before .before .before .before .before .before .before .before .before .before .pre .1 .0 .floor-low; height-low = c .before .before .before .before .before .before .before .before .before .before .before .before .before .before .pre .1 .0 .height-low; breaks-low = c .before .before .before .before .before .before .before .before .interp-region .ensures .1 .1 })
+
+-- src/lib.rt:703:19
+two-arms-enum-told-2 : (t : ℕ) → two-arms-lts.Need-enum-told-2 (
+  interp-region-below t,
+  interp-region.Post,
+  join-ends-reads.Asked,
+  join-ends-reads.Learnt,
+) (two-arms-at t) two-arms.Post
+two-arms-enum-told-2 t c = search needs
+
+-- src/lib.rt:703:19
+two-arms-add-t30 : (t : ℕ) → two-arms-lts.Need-add-t30 (
+  interp-region-below t,
+  interp-region.Post,
+  join-ends-reads.Asked,
+  join-ends-reads.Learnt,
+) (two-arms-at t) two-arms.Post
+two-arms-add-t30 t c = let q = Cycle.two-arms-in (c .before .before .before .before .before .before .before .before .before .before .before .before .before .before .before .before .before .before .before .before .before .args .t .now) (c .before .before .before .before .before .before .before .before .before .before .before .before .before .before .before .before .before .before .before .before .before .args .heights .now) (c .before .before .before .before .before .before .before .before .before .before .before .before .before .before .before .before .before .before .before .before .before .args .blinds .now) (c .before .before .before .before .before .before .before .before .before .before .before .before .before .before .before .before .before .before .before .before .before .args .x) (c .before .before .before .before .before .before .before .before .before .before .before .before .before .before .before .before .before .before .before .before .before .args .target) (c .before .before .before .before .before .before .before .before .before .before .before .before .before .before .before .before .before .before .before .before .before .args .ip) (c .before .before .before .before .before .before .before .before .before .before .before .before .before .before .before .before .before .before .before .before .before .args .end) (c .before .before .before .before .before .before .before .before .before .before .before .before .before .before .before .before .before .before .before .before .before .args .floor) _ _ (c .before .before .before .before .before .before .before .before .before .before .before .before .before .before .before .before .before .before .before .before .before .pre .1 .0) (c .before .before .before .before .before .before .before .before .before .before .before .before .before .before .before .before .before .before .before .before .before .pre .1 .1 .0) (c .before .before .before .before .before .before .before .before .before .before .before .before .before .before .before .before .before .before .before .before .before .pre .1 .1 .1) (c .before .before .before .before .before .before .before .before .before .before .before .before .before .before .before .before .before .before .before .before .before .args .closer) (c .before .before .before .before .before .before .before .before .before .before .before .before .before .before .before .before .before .before .before .before .before .pre .1 .1 .2) in omega (arith, q .2, c .before .before .before .before .before .before .before .before .before .before .before .before .before .before .before .before .before .before .before .before .before .fits)
+
+-- src/lib.rt:702:9
+two-arms-same-length-3 : (t : ℕ) → two-arms-lts.Need-same-length-3 (
+  interp-region-below t,
+  interp-region.Post,
+  join-ends-reads.Asked,
+  join-ends-reads.Learnt,
+) (two-arms-at t) two-arms.Post
+two-arms-same-length-3 t c = search needs
+
+-- src/lib.rt:702:9
+two-arms-same-length-4 : (t : ℕ) → two-arms-lts.Need-same-length-4 (
+  interp-region-below t,
+  interp-region.Post,
+  join-ends-reads.Asked,
+  join-ends-reads.Learnt,
+) (two-arms-at t) two-arms.Post
+two-arms-same-length-4 t c = search needs
+
+-- src/lib.rt:702:9
+two-arms-returns-2 : (t : ℕ) → two-arms-lts.Need-returns-2 (
+  interp-region-below t,
+  interp-region.Post,
+  join-ends-reads.Asked,
+  join-ends-reads.Learnt,
+) (two-arms-at t) two-arms.Post
+two-arms-returns-2 t c = (Cycle.else-refused (c .before .before .before .before .before .before .before .before .before .before .before .before .before .before .before .before .before .before .before .before .before .args .t .now) (c .before .before .before .before .before .before .before .before .before .before .before .before .before .before .before .before .before .before .before .before .before .args .x) (c .before .before .before .before .before .before .before .before .before .before .before .before .before .before .before .before .before .before .before .before .before .args .target) (c .before .before .before .before .before .before .before .before .before .before .before .before .before .before .before .before .before .before .before .before .before .args .ip) (c .before .before .before .before .before .before .before .before .before .before .before .before .before .before .before .before .before .before .before .before .before .args .end) (c .before .before .before .before .before .before .before .before .before .before .before .before .before .before .before .before .before .before .before .before .before .args .floor) (c .before .before .before .before .before .before .before .before .before .before .before .before .before .before .before .before .before .before .before .before .before .args .s) (c .before .before .before .before .before .before .before .before .before .before .before .before .before .before .before .before .before .before .before .before .before .args .b) _ _ (c .before .before .before .before .before .before .before .before .before .before .before .before .before .before .before .interp-region .result) (c .before .before .before .before .before .before .before .before .before .before .before .before .before .before .before .before .before .before .before .before .before .args .closer) (c .before .before .before .before .before .before .before .before .before .before .before .before .before .before .before .before .before .before .before .before .before .pre .1 .1 .2) (c .before .before .before .before .before .before .before .before .before .before .before .before .before .before .before .interp-region .ensures .0) (Laws.open-by (c .before .before .before .before .before .before .before .before .before .before .before .before .before .before .before .interp-region .result .flow) (c .before .before .before .before .before .before .before .before .before .before .match .keys2)) (c .before .before .before .before .before .before .interp-region2 .result) _ (c .before .before .before .before .before .before .interp-region2 .ensures .0) ((c .before .before .before .before .before .before .before .before .before .before .before .before .before .before .before .before .before .before .before .before .before .args .closer) + 1) (c .enum-told2 .given .1), (let q = Cycle.two-arms-in (c .before .before .before .before .before .before .before .before .before .before .before .before .before .before .before .before .before .before .before .before .before .args .t .now) (c .before .before .before .before .before .before .before .before .before .before .before .before .before .before .before .before .before .before .before .before .before .args .heights .now) (c .before .before .before .before .before .before .before .before .before .before .before .before .before .before .before .before .before .before .before .before .before .args .blinds .now) (c .before .before .before .before .before .before .before .before .before .before .before .before .before .before .before .before .before .before .before .before .before .args .x) (c .before .before .before .before .before .before .before .before .before .before .before .before .before .before .before .before .before .before .before .before .before .args .target) (c .before .before .before .before .before .before .before .before .before .before .before .before .before .before .before .before .before .before .before .before .before .args .ip) (c .before .before .before .before .before .before .before .before .before .before .before .before .before .before .before .before .before .before .before .before .before .args .end) (c .before .before .before .before .before .before .before .before .before .before .before .before .before .before .before .before .before .before .before .before .before .args .floor) _ _ (c .before .before .before .before .before .before .before .before .before .before .before .before .before .before .before .before .before .before .before .before .before .pre .1 .0) (c .before .before .before .before .before .before .before .before .before .before .before .before .before .before .before .before .before .before .before .before .before .pre .1 .1 .0) (c .before .before .before .before .before .before .before .before .before .before .before .before .before .before .before .before .before .before .before .before .before .pre .1 .1 .1) (c .before .before .before .before .before .before .before .before .before .before .before .before .before .before .before .before .before .before .before .before .before .args .closer) (c .before .before .before .before .before .before .before .before .before .before .before .before .before .before .before .before .before .before .before .before .before .pre .1 .1 .2) in (omega (arith, q .0, q .1), omega (arith, q .2), c .before .before .before .before .before .before .interp-region2 .ensures .1)))
+
+-- src/lib.rt:707:9
+two-arms-join-ends-requires : (t : ℕ) → two-arms-lts.Need-join-ends-requires (
+  interp-region-below t,
+  interp-region.Post,
+  join-ends-reads.Asked,
+  join-ends-reads.Learnt,
+) (two-arms-at t) two-arms.Post
+two-arms-join-ends-requires t c κs = (c .before .before .before .before .before .before .before .before .before .before .before .before .before .before .interp-region .ensures .1 .0, c .before .before .before .before .before .interp-region2 .ensures .1 .0, c .before .before .before .before .before .interp-region2 .ensures .1 .1, omega (arith, c .before .before .before .before .before .before .before .before .before .before .before .before .before .before .before .before .before .before .before .before .pre .1 .0 .placed .of .locals, locals-low (c .before .before .before .before .before .before .before .before .before .before .before .before .before .before .before .before .before .before .before .before .args .t .now) (c .before .before .before .before .before .before .before .before .before .before .before .before .before .before .before .before .before .before .before .before .args .x .chunk)), (Laws.open-by (c .before .before .before .before .before .before .before .before .before .before .before .before .before .before .interp-region .result .flow) (c .before .before .before .before .before .before .before .before .before .match .keys2)), (Laws.open-by (c .before .before .before .before .before .interp-region2 .result .flow) (c .match2 .keys2)))
+
+-- src/lib.rt:709:15
+two-arms-add-t23 : (t : ℕ) → two-arms-lts.Need-add-t23 (
+  interp-region-below t,
+  interp-region.Post,
+  join-ends-reads.Asked,
+  join-ends-reads.Learnt,
+) (two-arms-at t) two-arms.Post
+two-arms-add-t23 t c = let q = Cycle.two-arms-in (c .before .before .before .before .before .before .before .before .before .before .before .before .before .before .before .before .before .before .before .before .before .args .t .now) (c .before .before .before .before .before .before .before .before .before .before .before .before .before .before .before .before .before .before .before .before .before .args .heights .now) (c .before .before .before .before .before .before .before .before .before .before .before .before .before .before .before .before .before .before .before .before .before .args .blinds .now) (c .before .before .before .before .before .before .before .before .before .before .before .before .before .before .before .before .before .before .before .before .before .args .x) (c .before .before .before .before .before .before .before .before .before .before .before .before .before .before .before .before .before .before .before .before .before .args .target) (c .before .before .before .before .before .before .before .before .before .before .before .before .before .before .before .before .before .before .before .before .before .args .ip) (c .before .before .before .before .before .before .before .before .before .before .before .before .before .before .before .before .before .before .before .before .before .args .end) (c .before .before .before .before .before .before .before .before .before .before .before .before .before .before .before .before .before .before .before .before .before .args .floor) _ _ (c .before .before .before .before .before .before .before .before .before .before .before .before .before .before .before .before .before .before .before .before .before .pre .1 .0) (c .before .before .before .before .before .before .before .before .before .before .before .before .before .before .before .before .before .before .before .before .before .pre .1 .1 .0) (c .before .before .before .before .before .before .before .before .before .before .before .before .before .before .before .before .before .before .before .before .before .pre .1 .1 .1) (c .before .before .before .before .before .before .before .before .before .before .before .before .before .before .before .before .before .before .before .before .before .args .closer) (c .before .before .before .before .before .before .before .before .before .before .before .before .before .before .before .before .before .before .before .before .before .pre .1 .1 .2) in omega (arith, q .2, c .before .before .before .before .before .before .before .before .before .before .before .before .before .before .before .before .before .before .before .before .before .fits)
+
+-- src/lib.rt:672:1
+two-arms-same-length-5 : (t : ℕ) → two-arms-lts.Need-same-length-5 (
+  interp-region-below t,
+  interp-region.Post,
+  join-ends-reads.Asked,
+  join-ends-reads.Learnt,
+) (two-arms-at t) two-arms.Post
+two-arms-same-length-5 t c = search needs
+
+-- src/lib.rt:672:1
+two-arms-same-length-6 : (t : ℕ) → two-arms-lts.Need-same-length-6 (
+  interp-region-below t,
+  interp-region.Post,
+  join-ends-reads.Asked,
+  join-ends-reads.Learnt,
+) (two-arms-at t) two-arms.Post
+two-arms-same-length-6 t c = search needs
+
+-- src/lib.rt:672:1
+two-arms-returns-3 : (t : ℕ) → two-arms-lts.Need-returns-3 (
+  interp-region-below t,
+  interp-region.Post,
+  join-ends-reads.Asked,
+  join-ends-reads.Learnt,
+) (two-arms-at t) two-arms.Post
+two-arms-returns-3 t c = (Cycle.both-joined (c .before .before .before .before .before .before .before .before .before .before .before .before .before .before .before .before .before .before .before .before .before .args .t .now) (c .before .before .before .before .before .before .before .before .before .before .before .before .before .before .before .before .before .before .before .before .before .args .x) (c .before .before .before .before .before .before .before .before .before .before .before .before .before .before .before .before .before .before .before .before .before .args .target) (c .before .before .before .before .before .before .before .before .before .before .before .before .before .before .before .before .before .before .before .before .before .args .ip) (c .before .before .before .before .before .before .before .before .before .before .before .before .before .before .before .before .before .before .before .before .before .args .end) (c .before .before .before .before .before .before .before .before .before .before .before .before .before .before .before .before .before .before .before .before .before .args .floor) (c .before .before .before .before .before .before .before .before .before .before .before .before .before .before .before .before .before .before .before .before .before .args .s) (c .before .before .before .before .before .before .before .before .before .before .before .before .before .before .before .before .before .before .before .before .before .args .b) _ _ (c .before .before .before .before .before .before .before .before .before .before .before .before .before .before .before .interp-region .result) (c .before .before .before .before .before .before .before .before .before .before .before .before .before .before .before .before .before .before .before .before .before .args .closer) (c .before .before .before .before .before .before .before .before .before .before .before .before .before .before .before .before .before .before .before .before .before .pre .1 .1 .2) (c .before .before .before .before .before .before .before .before .before .before .before .before .before .before .before .interp-region .ensures .0) (Laws.open-by (c .before .before .before .before .before .before .before .before .before .before .before .before .before .before .before .interp-region .result .flow) (c .before .before .before .before .before .before .before .before .before .before .match .keys2)) (c .before .before .before .before .before .before .interp-region2 .result) _ (c .before .before .before .before .before .before .interp-region2 .ensures .0) (Laws.open-by (c .before .before .before .before .before .before .interp-region2 .result .flow) (c .before .match2 .keys2)) (c .join-ends .result) (c .join-ends .ensures .0 _), (let q = Cycle.two-arms-in (c .before .before .before .before .before .before .before .before .before .before .before .before .before .before .before .before .before .before .before .before .before .args .t .now) (c .before .before .before .before .before .before .before .before .before .before .before .before .before .before .before .before .before .before .before .before .before .args .heights .now) (c .before .before .before .before .before .before .before .before .before .before .before .before .before .before .before .before .before .before .before .before .before .args .blinds .now) (c .before .before .before .before .before .before .before .before .before .before .before .before .before .before .before .before .before .before .before .before .before .args .x) (c .before .before .before .before .before .before .before .before .before .before .before .before .before .before .before .before .before .before .before .before .before .args .target) (c .before .before .before .before .before .before .before .before .before .before .before .before .before .before .before .before .before .before .before .before .before .args .ip) (c .before .before .before .before .before .before .before .before .before .before .before .before .before .before .before .before .before .before .before .before .before .args .end) (c .before .before .before .before .before .before .before .before .before .before .before .before .before .before .before .before .before .before .before .before .before .args .floor) _ _ (c .before .before .before .before .before .before .before .before .before .before .before .before .before .before .before .before .before .before .before .before .before .pre .1 .0) (c .before .before .before .before .before .before .before .before .before .before .before .before .before .before .before .before .before .before .before .before .before .pre .1 .1 .0) (c .before .before .before .before .before .before .before .before .before .before .before .before .before .before .before .before .before .before .before .before .before .pre .1 .1 .1) (c .before .before .before .before .before .before .before .before .before .before .before .before .before .before .before .before .before .before .before .before .before .args .closer) (c .before .before .before .before .before .before .before .before .before .before .before .before .before .before .before .before .before .before .before .before .before .pre .1 .1 .2) in (omega (arith, q .0, q .1), omega (arith, q .2), c .join-ends .ensures .1)))
+
+pub +arms-at+block-at+if-at+interp-region+last-pass+loop-at+one-arm+passes-at+two-arms-spec :
     {M : Type 1} → statement M
-+arms-at+block-at+if-at+interp-region+last-pass+loop-at+passes-at-spec =
++arms-at+block-at+if-at+interp-region+last-pass+loop-at+one-arm+passes-at+two-arms-spec =
     close
     μ-arms-at
     μ-block-at
@@ -2052,63 +2092,42 @@ pub +arms-at+block-at+if-at+interp-region+last-pass+loop-at+passes-at-spec :
     μ-interp-region
     μ-last-pass
     μ-loop-at
+    μ-one-arm
     μ-passes-at
+    μ-two-arms
     (λ t. arms-at-lts.spec (
       layout-of-reads.Asked,
       layout-of-reads.Learnt,
-      interp-region-below t,
-      interp-region.Post,
-      join-ends-reads.Asked,
-      join-ends-reads.Learnt,
+      one-arm-below t,
+      one-arm.Post,
+      two-arms-below t,
+      two-arms.Post,
     )
     (arms-at-at t)
     arms-at.Post
     (arms-at-layout-of-requires t)
     (arms-at-enum-told t)
-    (arms-at-add-interp-region t)
-    (arms-at-interp-region-requires t)
-    (arms-at-enum-told-2 t)
-    (arms-at-add-t31 t)
+    (arms-at-one-arm-requires t)
+    (arms-at-enum-known-l t)
+    (arms-at-two-arms-requires t)
     (arms-at-same-length t)
     (arms-at-same-length-2 t)
     (arms-at-returns t)
-    (arms-at-join-ends-requires t)
-    (arms-at-add-t30 t)
-    (arms-at-enum-known-l t)
-    (arms-at-add-interp-region-2 t)
-    (arms-at-sub-interp-region t)
-    (arms-at-interp-region-requires-2 t)
-    (arms-at-enum-told-3 t)
-    (arms-at-add-t39 t)
     (arms-at-same-length-3 t)
     (arms-at-same-length-4 t)
-    (arms-at-returns-2 t)
-    (arms-at-interp-region-requires-3 t)
-    (arms-at-enum-told-4 t)
-    (arms-at-add-t44 t)
-    (arms-at-same-length-5 t)
-    (arms-at-same-length-6 t)
-    (arms-at-returns-3 t)
-    (arms-at-join-ends-requires-2 t)
-    (arms-at-add-t37 t)
-    (arms-at-same-length-7 t)
-    (arms-at-same-length-8 t)
-    (arms-at-returns-4 t)
-    (arms-at-same-length-9 t)
-    (arms-at-same-length-10 t)
-    (arms-at-returns-5 t))
+    (arms-at-returns-2 t))
     (λ t. block-at-lts.spec (
-      if-at-below t,
-      if-at.Post,
       loop-at-below t,
       loop-at.Post,
+      if-at-below t,
+      if-at.Post,
       leaf-at-reads.Asked,
       leaf-at-reads.Learnt,
     )
     (block-at-at t)
     block-at.Post
-    (block-at-if-at-requires t)
     (block-at-loop-at-requires t)
+    (block-at-if-at-requires t)
     (block-at-leaf-at-requires t)
     (block-at-same-length t)
     (block-at-same-length-2 t)
@@ -2222,7 +2241,27 @@ pub +arms-at+block-at+if-at+interp-region+last-pass+loop-at+passes-at-spec :
     (loop-at-same-length-3 t)
     (loop-at-same-length-4 t)
     (loop-at-returns-2 t))
-    λ t. passes-at-lts.spec (
+    (λ t. one-arm-lts.spec (
+      interp-region-below t,
+      interp-region.Post,
+      join-ends-reads.Asked,
+      join-ends-reads.Learnt,
+    )
+    (one-arm-at t)
+    one-arm.Post
+    (one-arm-add-interp-region t)
+    (one-arm-interp-region-requires t)
+    (one-arm-enum-told t)
+    (one-arm-add-t22 t)
+    (one-arm-same-length t)
+    (one-arm-same-length-2 t)
+    (one-arm-returns t)
+    (one-arm-join-ends-requires t)
+    (one-arm-add-t21 t)
+    (one-arm-same-length-3 t)
+    (one-arm-same-length-4 t)
+    (one-arm-returns-2 t))
+    (λ t. passes-at-lts.spec (
       interp-region-below t,
       interp-region.Post,
       leave-loop-reads.Asked,
@@ -2274,4 +2313,27 @@ pub +arms-at+block-at+if-at+interp-region+last-pass+loop-at+passes-at-spec :
     (passes-at-returns-4 t)
     (passes-at-same-length-9 t)
     (passes-at-same-length-10 t)
-    (passes-at-returns-5 t)
+    (passes-at-returns-5 t))
+    λ t. two-arms-lts.spec
+    (interp-region-below t, interp-region.Post, join-ends-reads.Asked, join-ends-reads.Learnt)
+    (two-arms-at t)
+    two-arms.Post
+    (two-arms-add-interp-region t)
+    (two-arms-sub-interp-region t)
+    (two-arms-interp-region-requires t)
+    (two-arms-enum-told t)
+    (two-arms-add-t25 t)
+    (two-arms-same-length t)
+    (two-arms-same-length-2 t)
+    (two-arms-returns t)
+    (two-arms-interp-region-requires-2 t)
+    (two-arms-enum-told-2 t)
+    (two-arms-add-t30 t)
+    (two-arms-same-length-3 t)
+    (two-arms-same-length-4 t)
+    (two-arms-returns-2 t)
+    (two-arms-join-ends-requires t)
+    (two-arms-add-t23 t)
+    (two-arms-same-length-5 t)
+    (two-arms-same-length-6 t)
+    (two-arms-returns-3 t)
