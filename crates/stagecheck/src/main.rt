@@ -32,12 +32,18 @@ fn read_listing(fd: i32, listing: &mut [u8]) -> Input
     Input::Bytes(n)
 }
 
+// Says on standard error what could not be done, and why.
+fn fail(what: &[u8]) {
+    io::write_all(STDERR_FILENO, b"stagecheck: ");
+    os::fail(what);
+}
+
 fn print_answer(listing: &[u8]) {
     let mut out = [0u8; ROOM];
     let n = stagecheck_text::check_text(listing, &mut out);
     let is_written = io::write_all(STDOUT_FILENO, &out[..n]);
     if !is_written {
-        os::fail(b"standard output");
+        fail(b"standard output");
     }
 }
 
@@ -47,7 +53,7 @@ fn check_input(fd: i32, name: &[u8]) {
     let input = read_listing(fd, &mut listing);
     match input {
         Input::Bytes(n) => print_answer(&listing[..n]),
-        Input::Failed => os::fail(name),
+        Input::Failed => fail(name),
     }
 }
 
@@ -55,12 +61,12 @@ fn check_file() {
     let mut path = io::buffer();
     let length = os::arg(1, &mut path);
     if os::errno() != 0 {
-        os::fail(b"FILE");
+        fail(b"FILE");
         return;
     }
     let fd = os::open_read(&path[..length]);
     if fd < 0 {
-        os::fail(&path[..length]);
+        fail(&path[..length]);
         return;
     }
     check_input(fd, &path[..length]);

@@ -1,10 +1,10 @@
 -- From the answer of the check to the text, and why 65,537 bytes of a listing are enough to read.
 use mathlib.Core.Path.{_≡_, refl, sym, ap, _∙_, subst}
 use mathlib.Core.Bool.{Bool, true, false}
-use mathlib.Core.List.{List, [], _∷_, map}
-use Prim.Native.Nat.{ℕ, _≤_, _<_}
+use mathlib.Core.List.{List, [], _∷_, _++_, map}
+use Prim.Native.Nat.{ℕ, _-_, _≤_, _<_}
 use native.Mathlib.Omega.{arith}
-use lib.ListN.{length, take, length-take}
+use lib.ListN.{length, take, replicate, length-append, length-take, length-replicate}
 use lib.Seq.{take-all, take-append-seam, length-take-le}
 use lib.Dec.{T, leb, leb→le}
 use borrow.Author.Tests.{leb-false}
@@ -59,21 +59,25 @@ few (R.EnumBodySizeMismatch a b c) = omega arith
 few (R.PrivateCompositeLayoutInvalid a b c) = omega arith
 few (R.SharedLayoutCountMismatch a b c) = omega arith
 
+eight : (xs : List ℕ) → length xs ≤ 8 → length (xs ++ replicate (8 - length xs) 0) ≡ 8
+eight xs l = omega (arith, length-append xs (replicate (8 - length xs) 0), length-replicate {A = ℕ} (8 - length xs) 0)
+
+pub first-few : (k : ℕ) (ws : List ℕ) → length ws ≡ 8 → length (take k ws) ≤ 8
+first-few k ws l = omega (arith, length-take k ws)
+
 -- the words that count are the numbers
 module _ (r : Refusal) (n : Numbers) (e : n ≡ row-of (numbers r)) where
-  pub words-are : take (n .count) (n .words) ≡ numbers r
+  words-are : take (n .count) (n .words) ≡ numbers r
   unfolding row-of
   words-are = ap (λ (z : Numbers). take (z .count) (z .words)) e ∙ take-append-seam (numbers r) _
 
-  pub words-count : n .count ≡ length (take (n .count) (n .words))
+  pub words-eight : length (n .words) ≡ 8
   unfolding row-of
-  words-count = ap (λ (z : Numbers). z .count) e ∙ ap length (sym words-are)
+  words-eight = ap (λ (z : Numbers). length (z .words)) e ∙ eight (numbers r) (few r)
 
-  pub words-few : length (take (n .count) (n .words)) ≤ 8
-  words-few = let f : length (numbers r) ≤ 8 = few r in omega (arith, ap length words-are)
-
-  pub words-within : n .count ≤ length (n .words)
-  words-within = omega (arith, words-count, length-take (n .count) (n .words))
+  pub count-few : n .count ≤ 8
+  unfolding row-of
+  count-few = omega (arith, few r, ap (λ (z : Numbers). z .count) e)
 
 -- ── The text ──────────────────────────────────────────────────────────────────────────────
 
@@ -82,17 +86,14 @@ abbrev told : Bytes → Checked → Bytes
 told s r = print-answer r (sizes-read (read s)) (r .answer)
 
 -- The check of a listing with two sheets, and the tables that it leaves.
-module _ (s : Bytes) (t heights blinds : List ℕ) (a : Answer) (h b : ℕ) (l : h ≡ 4096) (m : b ≡ 4096) (e : checkedOf a heights blinds ≡ check s h b) where
-  checked-4096 : checkedOf a heights blinds ≡ check s 4096 4096
-  checked-4096 = e ∙ ap (λ (n : ℕ). check s n b) l ∙ ap (check s 4096) m
-
+module _ (s : Bytes) (t heights blinds : List ℕ) (a : Answer) (e : checkedOf a heights blinds ≡ check s 4096 4096) where
   pub refused-text : {why : Refusal} (n : Numbers) → a ≡ A.Refused why → n ≡ row-of (numbers why) →
       words (bytes "refused" ∷ map decimal (take (n .count) (n .words))) ≡ printed s
   unfolding printed print-answer answerOf
   refused-text {why} n g r =
       ap (λ (xs : List ℕ). words (bytes "refused" ∷ map decimal xs)) (words-are why n r)
       ∙ ap (λ (z : Answer). told s (checkedOf z heights blinds)) (sym g)
-      ∙ ap (told s) checked-4096
+      ∙ ap (told s) e
 
   module _ {chunks instructions : ℕ} (g : a ≡ A.Accepted chunks instructions) (k : Tables-hold a s t) where
     is-accepted : answerOf a ≡ accepted chunks instructions
@@ -100,7 +101,7 @@ module _ (s : Bytes) (t heights blinds : List ℕ) (a : Answer) (h b : ℕ) (l :
     is-accepted = ap answerOf g
 
     accepts-it : Accepts s 4096 4096
-    accepts-it = accepts s 4096 4096 chunks instructions (ap (λ (z : Checked). z .answer) (sym checked-4096) ∙ is-accepted)
+    accepts-it = accepts s 4096 4096 chunks instructions (ap (λ (z : Checked). z .answer) (sym e) ∙ is-accepted)
 
     held : accepts-it .gives ≡ moduleOf t
     held = ok-inj (sym (accepts-it .reads) ∙ k chunks instructions is-accepted .0)
@@ -114,7 +115,7 @@ module _ (s : Bytes) (t heights blinds : List ℕ) (a : Answer) (h b : ℕ) (l :
     answer-is : answerOf a ≡ acceptance t
     unfolding acceptance
     answer-is =
-        ap (λ (z : Checked). z .answer) (checked-4096 ∙ accepts-it .answers)
+        ap (λ (z : Checked). z .answer) (e ∙ accepts-it .answers)
         ∙ ap (λ (z : Module). accepted (length (z .chunks)) (length (all-ops (z .chunks)))) held
 
     pub accepted-is : accepted-text t heights blinds ≡ printed s
@@ -122,7 +123,7 @@ module _ (s : Bytes) (t heights blinds : List ℕ) (a : Answer) (h b : ℕ) (l :
     accepted-is =
         ap (λ (z : AnyAnswer). print-answer (record { answer = z; heights = heights; blinds = blinds }) (sizes (moduleOf t .chunks)) z) (sym answer-is)
         ∙ ap (λ (z : Result Module). print-answer (checkedOf a heights blinds) (sizes-read z) (answerOf a)) (sym (k chunks instructions is-accepted .0))
-        ∙ ap (told s) checked-4096
+        ∙ ap (told s) e
 
 -- ── Long listings ─────────────────────────────────────────────────────────────────────────
 

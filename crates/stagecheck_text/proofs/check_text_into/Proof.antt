@@ -1,6 +1,8 @@
 -- `stagecheck_text::check_text_into` meets its contract. Assumes nothing.
-use mathlib.Core.Path.{refl}
-use Rattle.stagecheck_text.proofs.Laws.{renamed, words-within, words-count, words-few, refused-text, room, accepted-is}
+use mathlib.Core.Path.{sym}
+use native.Mathlib.Omega.{arith}
+use lib.Seq.{length-take-le}
+use Rattle.stagecheck_text.proofs.Laws.{renamed, first-few, words-eight, count-few, refused-text, room, accepted-is}
 use borrow.Author.Needs.{needs}
 use Rattle.stagecheck_text.proofs.check_text_into.Statement.{statement}
 use Rattle.stagecheck_text.proofs.check_text_into.Tie as tie
@@ -37,7 +39,7 @@ slice-aggregate-print-accepted-2 c = search needs
 
 -- src/lib.rt:15:35
 print-accepted-requires : tie.Need-print-accepted-requires
-print-accepted-requires c κs = room (c .before .before .before .before .before .before .before .before .before .before .before .before .before .before .args .listing .now) (c .before .before .before .before .before .before .before .before .before .check-into .last .1 .0) (c .before .before .before .before .before .before .before .before .before .check-into .last .1 .1 .0) (c .before .before .before .before .before .before .before .before .before .check-into .last .1 .1 .1 .0) (c .before .before .before .before .before .before .before .before .before .check-into .result) _ _ refl refl (c .before .before .before .before .before .before .before .before .before .check-into .ensures .0) (c .before .before .before .before .before .enum-told .given .1) (c .before .before .before .before .before .before .before .before .before .check-into .ensures .1)
+print-accepted-requires c κs = room (c .before .before .before .before .before .before .before .before .before .before .before .before .before .before .args .listing .now) (c .before .before .before .before .before .before .before .before .before .check-into .last .1 .0) (c .before .before .before .before .before .before .before .before .before .check-into .last .1 .1 .0) (c .before .before .before .before .before .before .before .before .before .check-into .last .1 .1 .1 .0) (c .before .before .before .before .before .before .before .before .before .check-into .result) (c .before .before .before .before .before .before .before .before .before .check-into .ensures .0) (c .before .before .before .before .before .enum-told .given .1) (c .before .before .before .before .before .before .before .before .before .check-into .ensures .1)
 
 -- src/lib.rt:16:25
 enum-known-a : tie.Need-enum-known-a
@@ -49,27 +51,26 @@ numbers-requires c κs = search needs
 
 -- src/lib.rt:20:36
 array-share-prefix-words : tie.Need-array-share-prefix-words
-array-share-prefix-words c = words-within _ (c .before .numbers .result) (c .before .numbers .ensures)
+array-share-prefix-words c = omega (arith, words-eight _ (c .before .numbers .result) (c .before .numbers .ensures), count-few _ (c .before .numbers .result) (c .before .numbers .ensures))
 
 -- src/lib.rt:20:36
 slice-aggregate-print-refused : tie.Need-slice-aggregate-print-refused
-slice-aggregate-print-refused c = words-count _ (c .before .before .numbers .result) (c .before .before .numbers .ensures)
+slice-aggregate-print-refused c = sym (length-take-le _ (c .before .before .numbers .result .words) (omega (arith, words-eight _ (c .before .before .numbers .result) (c .before .before .numbers .ensures), count-few _ (c .before .before .numbers .result) (c .before .before .numbers .ensures))))
 
 -- src/lib.rt:20:13
 print-refused-requires : tie.Need-print-refused-requires
-print-refused-requires c κs = words-few _ (c .before .before .before .numbers .result) (c .before .before .before .numbers .ensures)
+print-refused-requires c κs = search (first-few, words-eight _ (c .before .before .before .numbers .result) (c .before .before .before .numbers .ensures))
 
 -- src/lib.rt:8:1
 returns : tie.Need-returns
-returns c = renamed (accepted-is (c .before .before .before .before .before .before .before .before .before .before .before .before .before .before .before .args .listing .now) (c .before .before .before .before .before .before .before .before .before .before .check-into .last .1 .0) (c .before .before .before .before .before .before .before .before .before .before .check-into .last .1 .1 .0) (c .before .before .before .before .before .before .before .before .before .before .check-into .last .1 .1 .1 .0) (c .before .before .before .before .before .before .before .before .before .before .check-into .result) _ _ refl refl (c .before .before .before .before .before .before .before .before .before .before .check-into .ensures .0) (c .before .before .before .before .before .before .enum-told .given .1) (c .before .before .before .before .before .before .before .before .before .before .check-into .ensures .1)) (c .print-accepted .ensures)
+returns c = renamed (accepted-is (c .before .before .before .before .before .before .before .before .before .before .before .before .before .before .before .args .listing .now) (c .before .before .before .before .before .before .before .before .before .before .check-into .last .1 .0) (c .before .before .before .before .before .before .before .before .before .before .check-into .last .1 .1 .0) (c .before .before .before .before .before .before .before .before .before .before .check-into .last .1 .1 .1 .0) (c .before .before .before .before .before .before .before .before .before .before .check-into .result) (c .before .before .before .before .before .before .before .before .before .before .check-into .ensures .0) (c .before .before .before .before .before .before .enum-told .given .1) (c .before .before .before .before .before .before .before .before .before .before .check-into .ensures .1)) (c .print-accepted .ensures)
 
 -- src/lib.rt:8:1
 returns-2 : tie.Need-returns-2
-returns-2 c = renamed (refused-text (c .before .before .before .before .before .before .before .before .before .before .before .before .before .before .before .args .listing .now) (c .before .before .before .before .before .before .before .before .before .before .check-into .last .1 .0) (c .before .before .before .before .before .before .before .before .before .before .check-into .last .1 .1 .0) (c .before .before .before .before .before .before .before .before .before .before .check-into .last .1 .1 .1 .0) (c .before .before .before .before .before .before .before .before .before .before .check-into .result) _ _ refl refl (c .before .before .before .before .before .before .before .before .before .before .check-into .ensures .0) (c .before .before .before .before .numbers .result) (c .before .before .before .before .before .before .a .given .1) (c .before .before .before .before .numbers .ensures)) (c .print-refused .ensures)
+returns-2 c = renamed (refused-text (c .before .before .before .before .before .before .before .before .before .before .before .before .before .before .before .args .listing .now) (c .before .before .before .before .before .before .before .before .before .before .check-into .last .1 .0) (c .before .before .before .before .before .before .before .before .before .before .check-into .last .1 .1 .0) (c .before .before .before .before .before .before .before .before .before .before .check-into .last .1 .1 .1 .0) (c .before .before .before .before .before .before .before .before .before .before .check-into .result) (c .before .before .before .before .before .before .before .before .before .before .check-into .ensures .0) (c .before .before .before .before .numbers .result) (c .before .before .before .before .before .before .a .given .1) (c .before .before .before .before .numbers .ensures)) (c .print-refused .ensures)
 
 pub check-text-into-spec : {M : Type 1} → statement M
-check-text-into-spec =
-    tie.close
+check-text-into-spec = tie.close
     (tie.spec
     slice-aggregate-check-into
     slice-aggregate-check-into-2
