@@ -2,38 +2,13 @@
 //! `limits`, on listings 0 to COUNT - 1 of a seed. Prints counts and every disagreement with its listing, and fails
 //! where there is one, or where so many listings must reach an answer and do not.
 
-use oracle::compare::{self, ANSWER_WORDS};
+use oracle::compare;
 use oracle::generator;
 use std::io::{self, Write};
 use std::process::ExitCode;
 
-unsafe extern "C" {
-    /// As in include/stagecheck.h.
-    fn stagecheck_check(
-        listing: *const u8,
-        listing_length: usize,
-        heights: *mut u8,
-        heights_length: usize,
-        blinds: *mut u8,
-        blinds_length: usize,
-        answer: *mut u64,
-    ) -> usize;
-}
-
-fn check(listing: &[u8], heights: &mut [u8], blinds: &mut [u8], answer: &mut [u64; ANSWER_WORDS]) -> usize {
-    // SAFETY: pointers of slices are not null and good for their lengths, and those that are written overlap nothing.
-    unsafe {
-        stagecheck_check(
-            listing.as_ptr(),
-            listing.len(),
-            heights.as_mut_ptr(),
-            heights.len(),
-            blinds.as_mut_ptr(),
-            blinds.len(),
-            answer.as_mut_ptr(),
-        )
-    }
-}
+#[path = "../stagecheck.rs"]
+mod stagecheck;
 
 fn main() -> io::Result<ExitCode> {
     let mut arguments: Vec<String> = std::env::args().skip(1).collect();
@@ -43,7 +18,7 @@ fn main() -> io::Result<ExitCode> {
         eprintln!("usage: compare SEED COUNT [small]");
         return Ok(ExitCode::FAILURE);
     };
-    let comparison = compare::compare(&check, *seed, *count, size);
+    let comparison = compare::compare(&stagecheck::check, *seed, *count, size);
     let mut out = io::stdout().lock();
     for disagreement in &comparison.disagreements {
         out.write_all(disagreement)?;

@@ -1,0 +1,33 @@
+//! The proved checker's static library. Programs that link it include this file; the oracle's own library does not.
+
+unsafe extern "C" {
+    /// As in include/stagecheck.h.
+    fn stagecheck_check(
+        listing: *const u8,
+        listing_length: usize,
+        heights: *mut u8,
+        heights_length: usize,
+        blinds: *mut u8,
+        blinds_length: usize,
+        answer: *mut u64,
+    ) -> usize;
+}
+
+/// The words of an answer: 0, chunks and instructions, or a refusal's numbers; the rest are 0.
+pub const ANSWER_WORDS: usize = 8;
+
+/// Checks a listing and gives how many words the answer has.
+pub fn check(listing: &[u8], heights: &mut [u8], blinds: &mut [u8], answer: &mut [u64; ANSWER_WORDS]) -> usize {
+    // SAFETY: pointers of slices are not null and good for their lengths, and those that are written overlap nothing.
+    unsafe {
+        stagecheck_check(
+            listing.as_ptr(),
+            listing.len(),
+            heights.as_mut_ptr(),
+            heights.len(),
+            blinds.as_mut_ptr(),
+            blinds.len(),
+            answer.as_mut_ptr(),
+        )
+    }
+}
