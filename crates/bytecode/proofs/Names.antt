@@ -17,7 +17,8 @@ use Rattle.definition.specs.Shapes.{same-places}
 use Rattle.definition.specs.Format.{Bytes, bytes}
 use Rattle.definition.specs.Ops.{ops, row}
 use Rattle.bytecode.specs.Tables.{all-below, at-each}
-use Rattle.bytecode.specs.Names.{names, name-bytes, name-at, lookup-from, lookup, little, AllBytes, Packs}
+use Rattle.bytecode.specs.Lists.{tabulate}
+use Rattle.bytecode.specs.Names.{names, name-bytes, name-at, lookup-from, lookup, little, AllBytes, Packs, place-of, text-place, index-of, placing, places}
 use Rattle.bytecode.specs.declared.ops.Packed.{Packed}
 
 -- ── The same bytes ────────────────────────────────────────────────────────────────────────
@@ -145,6 +146,44 @@ module _ (i : ℕ) (h : i < 75) (p : Packed) (text : Bytes) (k : Packs text p) w
           (a ∙ k .first) (b ∙ k .second) (c ∙ k .third))
       go false e = same-no (name-at i) text (λ q. eqb-false (length (name-at i)) (p .length) e (ap length q ∙ sym (k .count)))
 
+-- ── Places ────────────────────────────────────────────────────────────────────────────────
+
+true-false : true ≡ false → ⊥
+true-false e = subst T e tt
+
+right : ℕ → Bool
+right i = eqb (getD places (text-place (name-at i)) 0) i
+
+-- Each row stands at its name's place, tested once for all rows: so no two names have the same place.
+all-right : T (all-below 75 right)
+unfolding all-below right places placing index-of tabulate text-place place-of little name-at names ops row bytes
+all-right = tt
+
+low : ℕ → Bool
+low k = ltb (getD places k 0) 75
+
+all-low : T (all-below 256 low)
+unfolding all-below low places placing index-of tabulate text-place place-of little name-at names ops row bytes
+all-low = tt
+
+pub place-low : (k a b c : ℕ) → k ≡ place-of a b c → k < 256
+unfolding place-of
+place-low k a b c e = omega arith
+
+pub placed-low : (k : ℕ) → k < 256 → getD places k 0 < 75
+unfolding low
+placed-low k h = ltb→lt (getD places k 0) 75 (at-each 256 low all-low k h)
+
+placed-at : (k i : ℕ) → i < 75 → text-place (name-at i) ≡ k → getD places k 0 ≡ i
+unfolding right
+placed-at k i h e = ap (λ (n : ℕ). getD places n 0) (sym e) ∙ eqb→eq (getD places (text-place (name-at i)) 0) i (at-each 75 right all-right i h)
+
+-- the row at the place of a packed text
+pub placed-only : (text : Bytes) (k : ℕ) (p : Packed) → Packs text p → k ≡ place-of (p .first) (p .second) (p .third) → (r : ℕ) → r ≡ getD places k 0 →
+    (i : ℕ) → i < 75 → text-place (name-at i) ≡ text-place text → r ≡ i
+unfolding text-place
+placed-only text k p x e r f i h g = f ∙ placed-at k i h (g ∙ sym (e ∙ rw (x .first, x .second, x .third)))
+
 -- ── The search over the rows ──────────────────────────────────────────────────────────────
 
 names-long : length names ≡ 75
@@ -152,15 +191,15 @@ unfolding names ops
 names-long = refl
 
 module _ (text : Bytes) (i : ℕ) where
-  pub left-in : Option ℕ
+  left-in : Option ℕ
   left-in = lookup-from i (drop i names) text
 
 module _ (text : Bytes) where
-  pub search-start : lookup text ≡ left-in text 0
+  search-start : lookup text ≡ left-in text 0
   unfolding lookup left-in
   search-start = refl
 
-  pub search-end : (i : ℕ) → 75 ≤ i → left-in text i ≡ none
+  search-end : (i : ℕ) → 75 ≤ i → left-in text i ≡ none
   unfolding left-in lookup-from
   search-end i h = rw (drop-of-length-le names {i = i} (omega (arith, names-long)))
 
@@ -168,24 +207,46 @@ module _ (text : Bytes) where
   unfolding left-in name-at
   row-first i h = ap (λ (ns : List Bytes). lookup-from i ns text) (drop-cons names i [] (omega (arith, names-long)))
 
-  pub search-found : (i : ℕ) → i < 75 → true ≡ same-places (name-at i) text → left-in text i ≡ some i
+  search-found : (i : ℕ) → i < 75 → true ≡ same-places (name-at i) text → left-in text i ≡ some i
   unfolding lookup-from
   search-found i h e = row-first i h ∙ (rw (lookup-from, ← e))
 
-  pub search-more : (i : ℕ) → i < 75 → false ≡ same-places (name-at i) text → left-in text i ≡ left-in text (i + 1)
+  search-more : (i : ℕ) → i < 75 → false ≡ same-places (name-at i) text → left-in text i ≡ left-in text (i + 1)
   unfolding lookup-from left-in
   search-more i h e = row-first i h ∙ (rw (lookup-from, ← e, add-one i))
 
-  -- ── A text of more than 24 bytes is no name ───────────────────────────────────────────────
+  -- rows that are not the text are passed over
+  pass : (n i stop : ℕ) → i + n ≡ stop → stop ≤ 75 → ((j : ℕ) → j < stop → name-at j ≡ text → ⊥) → left-in text i ≡ left-in text stop
+  pass zero i stop e l other = ap (left-in text) (let z : i ≡ stop = omega arith in z)
+  pass (suc n) i stop e l other =
+      search-more i (omega arith) (same-no (name-at i) text (other i (omega arith))) ∙ pass n (i + 1) stop (omega arith) l other
 
-  too-long : (n i : ℕ) → i + n ≡ 75 → 24 < length text → left-in text i ≡ none
-  too-long zero i e l = search-end i (omega arith)
-  too-long (suc n) i e l =
-      search-more i (omega arith) (same-no (name-at i) text (λ q. absurd (omega (arith, ap length q, name-short i (omega arith)))))
-      ∙ too-long n (i + 1) (omega arith) l
+  none-of : ((j : ℕ) → j < 75 → name-at j ≡ text → ⊥) → none ≡ lookup text
+  none-of other = sym (search-start ∙ pass 75 0 75 (omega arith) (omega arith) other ∙ search-end 75 (omega arith))
 
+  -- A text of more than 24 bytes is no name.
   pub long-none : 24 < length text → none ≡ lookup text
-  long-none l = sym (search-start ∙ too-long 75 0 (omega arith) l)
+  long-none l = none-of (λ j h q. absurd (omega (arith, ap length q, name-short j h)))
+
+  -- ── The one row that has the text's place ─────────────────────────────────────────────────
+
+  module _ (r : ℕ) (l : r < 75) (only : (i : ℕ) → i < 75 → text-place (name-at i) ≡ text-place text → r ≡ i) where
+    at-row : (j : ℕ) → j < 75 → name-at j ≡ text → r ≡ j
+    at-row j h q = only j h (ap text-place q)
+
+    pub placed-found : true ≡ same-places (name-at r) text → some r ≡ lookup text
+    placed-found e =
+        sym
+        (search-start
+        ∙ pass r 0 r (omega arith) (omega arith) (λ j h q. absurd (omega (arith, at-row j (omega arith) q)))
+        ∙ search-found r l e)
+
+    pub placed-none : false ≡ same-places (name-at r) text → none ≡ lookup text
+    placed-none e =
+        none-of
+        (λ j h q.
+        let s : name-at r ≡ text = ap name-at (at-row j h q) ∙ q in
+        true-false (same-yes (name-at r) text s ∙ sym e))
 
 -- ── Packing eight bytes from the last on ──────────────────────────────────────────────────
 

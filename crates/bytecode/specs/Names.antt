@@ -3,8 +3,10 @@ use mathlib.Core.Path.{_≡_, refl}
 use mathlib.Core.Bool.{Bool, true, false}
 use mathlib.Core.Option.{Option, none, some}
 use mathlib.Core.List.{List, [], _∷_, map}
-use Prim.Native.Nat.{ℕ, zero, suc, _+_, _*_, _<_}
+use Prim.Native.Nat.{ℕ, zero, suc, _+_, _*_, _%_, _<_}
 use lib.ListN.{length, getD, take, drop}
+use lib.Dec.{eqb}
+use Rattle.bytecode.specs.Lists.{tabulate}
 use lib.IntN.{ℤ, pos, _-ℤ_, _+ℤ_, -ℤ-+ℤ-cancel}
 use Rattle.definition.specs.Shapes.{same-places}
 use Rattle.definition.specs.Format.{Bytes, bytes}
@@ -54,6 +56,24 @@ pub record Packs (text : Bytes) (p : Packed) : Type 0 where
   pub second : p .second ≡ little (take 8 (drop 8 text))
   pub third : p .third ≡ little (take 8 (drop 16 text))
   pub count : p .length ≡ length text
+
+-- Where a name has its row: a number below 256 from its words, by which no two names are alike.
+unfoldable pub place-of : ℕ → ℕ → ℕ → ℕ
+place-of a b c = (a % 84571 + b % 84571 + c % 84571) % 256
+
+unfoldable pub text-place : Bytes → ℕ
+text-place text = place-of (little (take 8 text)) (little (take 8 (drop 8 text))) (little (take 8 (drop 16 text)))
+
+-- For each place the row whose name has it; 0 where no name has it.
+unfoldable pub index-of : ℕ → ℕ → List ℕ → ℕ
+index-of i k [] = 0
+index-of i k (n ∷ ns) = elim (eqb n k) [ true ↦ i | false ↦ index-of (suc i) k ns ]
+
+unfoldable pub placing : List ℕ → List ℕ
+placing ns = tabulate 0 256 (λ k. index-of 0 k ns)
+
+unfoldable pub places : List ℕ
+places = placing (map text-place names)
 
 -- ── Plain names ───────────────────────────────────────────────────────────────────────────
 

@@ -1,61 +1,47 @@
-use mathlib.Core.Path.{_≡_, _∙_, sym}
-use Prim.Native.Nat.{_-_}
-use Rattle.definition.specs.Format.{Bytes}
-use Rattle.bytecode.specs.Names.{lookup, Packs, row-number}
-use Rattle.bytecode.proofs.Names.{left-in, search-start, search-end, search-found, search-more}
+-- `bytecode::ops::row_of` meets its contract. Assumes nothing.
+use mathlib.Core.Path.{sym, _∙_}
+use native.Mathlib.Omega.{arith}
+use Rattle.bytecode.specs.Names.{row-number}
+use Rattle.bytecode.proofs.Names.{place-low, placed-low, placed-found, placed-none, placed-only}
+use borrow.Author.Needs.{needs}
 use Rattle.bytecode.proofs.ops.row_of.Statement.{statement}
 use Rattle.bytecode.proofs.ops.row_of.Tie as tie
 use Rattle.bytecode.proofs.ops.row_of.Reads as reads
 use Rattle.bytecode.proofs.ops.row_of.Lts as lts
 use Rattle.bytecode.proofs.ops.is_name.Reads as is-name-reads
-use borrow.Author.Needs.{needs}
+use Rattle.bytecode.proofs.ops.place.Reads as place-reads
+use Rattle.bytecode.proofs.ops.row_at.Reads as row-at-reads
 
-abbrev Inv-loop : tie.InvT-loop
-Inv-loop p i₀ i = (text : Bytes) → Packs text p → lookup text ≡ left-in text i
+-- src/ops.rt:1124:22
+place-requires : tie.Need-place-requires
+place-requires c κs = search needs
 
-abbrev μ-loop : tie.MeasureT-loop
-μ-loop p i₀ i = 75 - i
+-- src/ops.rt:1124:15
+row-at-requires : tie.Need-row-at-requires
+row-at-requires c κs = place-low _ _ _ _ (c .place .ensures)
 
--- src/ops.rt:394:5
-loop-holds : tie.Need-loop-holds Inv-loop μ-loop
-loop-holds c = λ text k. search-start text
+-- src/ops.rt:1124:15
+cast-row : tie.Need-cast-row
+cast-row c = search needs
 
--- src/ops.rt:395:12
-is-name-requires : tie.Need-is-name-requires Inv-loop μ-loop
-is-name-requires c κs = search needs
+-- src/ops.rt:1125:8
+is-name-requires : tie.Need-is-name-requires
+is-name-requires c κs = omega (arith, c .row-at .ensures, placed-low (c .before .place .result) (place-low _ _ _ _ (c .before .place .ensures)))
 
--- src/ops.rt:396:13
-returns : tie.Need-returns Inv-loop μ-loop
+-- src/ops.rt:1126:9
+returns : tie.Need-returns
 unfolding row-number
-returns c = λ text k. sym (c .before .before .before .loop .inv text k ∙ search-found text (c .before .before .before .loop .i) (search needs) (sym (c .if1 .taken) ∙ c .before .is-name .ensures text k))
+returns c = λ text k.
+    placed-found text (c .before .before .row-at .result) (omega (arith, c .before .before .row-at .ensures, placed-low (c .before .before .before .place .result) (place-low _ _ _ _ (c .before .before .before .place .ensures))))
+    (placed-only text (c .before .before .before .place .result) (c .before .before .before .before .args .p) k (c .before .before .before .place .ensures) (c .before .before .row-at .result) (c .before .before .row-at .ensures)) (sym (c .if1 .taken) ∙ c .before .is-name .ensures text k)
 
--- src/ops.rt:398:9
-add-i : tie.Need-add-i Inv-loop μ-loop
-add-i c = search needs
-
--- src/ops.rt:394:5
-loop-less : tie.Need-loop-less Inv-loop μ-loop
-loop-less c = search needs
-
--- src/ops.rt:394:5
-loop-again : tie.Need-loop-again Inv-loop μ-loop
-loop-again c = λ text k. c .before .before .before .loop .inv text k ∙ search-more text (c .before .before .before .loop .i) (search needs) (sym (c .if1 .left) ∙ c .before .is-name .ensures text k)
-
--- src/ops.rt:390:1
-returns-2 : tie.Need-returns-2 Inv-loop μ-loop
+-- src/ops.rt:1121:1
+returns-2 : tie.Need-returns-2
 unfolding row-number
-returns-2 c = λ text k. sym (c .before .loop .inv text k ∙ search-end text (c .before .loop .i) (search needs))
+returns-2 c = λ text k.
+    placed-none text (c .before .before .row-at .result) (omega (arith, c .before .before .row-at .ensures, placed-low (c .before .before .before .place .result) (place-low _ _ _ _ (c .before .before .before .place .ensures))))
+    (placed-only text (c .before .before .before .place .result) (c .before .before .before .before .args .p) k (c .before .before .before .place .ensures) (c .before .before .row-at .result) (c .before .before .row-at .ensures)) (sym (c .if1 .left) ∙ c .before .is-name .ensures text k)
 
 pub row-of-spec : {M : Type 1} → statement M
 row-of-spec =
-    tie.close
-    (tie.spec
-    Inv-loop
-    μ-loop
-    loop-holds
-    is-name-requires
-    returns
-    add-i
-    loop-less
-    loop-again
-    returns-2)
+    tie.close (tie.spec place-requires row-at-requires cast-row is-name-requires returns returns-2)
