@@ -25,7 +25,7 @@ use Rattle.apply.specs.declared.Verdict.the-variants.{Passed, Limit, Sta
 use Rattle.apply.specs.declared.Step.{Step}
 use Rattle.apply.specs.declared.Rule.{Rule}
 use Rattle.apply.specs.Answers.{refusal, is-none, resultOf}
-use Rattle.apply.specs.Rules.{own-tests, Moves, Rules, Stepped}
+use Rattle.apply.specs.Rules.{own-tests, Moves, Rules, Roomed, Stepped}
 use Rattle.apply.proofs.Tests.{is-none-eq, not-none}
 use Rattle.apply.proofs.Rules.{first-stops}
 
@@ -54,26 +54,50 @@ module _ (c : Chunk) (i : Instr) (locals ip : ℕ) (s : State) (r : Rule) (clear
       ap height (sym effect) ∙ replaced-length (r .take) (r .times) (r .ints) (valueOf (r .value)) (scalar 3) (stateOf locals s)
       ∙ ap (λ (z : ℕ). r .ints + (r .times + (z - r .take))) (down-length (valueAt (s .slots) (s .places)) (s .height))
 
-  own-none : own-tests c ip i (stackOf s) ≡ none
-  own-none = sym (rules .tests) ∙ clear
+-- a refusal leaves nothing of the state
+refuses : (d : Option (List ℕ)) (a b : AnyState) → is-none d ≡ false → pass d a ≡ pass d b
+unfolding pass
+refuses none a b e = absurd (not-none none e refl)
+refuses (some l) a b e = refl
 
-  pub over : (m n : ℕ) → m ≡ r .times → n ≡ r .ints → 64 < s .height - r .take + m + n
-      → pass (some (2 ∷ ip ∷ 5 ∷ [])) (stateOf locals s)
-      ≡ pass (first none (first (own-tests c ip i (stackOf s)) (height-test ip (height (after c i (stateOf locals s)))))) (after c i (stateOf locals s))
-  unfolding first height-test unless pass
-  over m n e f h =
-      let k : height (after c i (stateOf locals s)) ≡ r .ints + (r .times + (s .height - r .take)) = tall in
-      rw (own-none, lt-leb (height (after c i (stateOf locals s))) 64 (omega arith))
+pub first-refuses : (d q : Option (List ℕ)) → is-none d ≡ false → d ≡ first d q
+unfolding first
+first-refuses none q e = absurd (not-none none e refl)
+first-refuses (some l) q e = refl
 
-  pub enough : (m n : ℕ) (a : AnyState) → m ≡ r .times → n ≡ r .ints → s .height - r .take + m + n ≤ 64
+pub over : (d : Option (List ℕ)) (ip h t times ints m n : ℕ) → d ≡ none → m ≡ times → n ≡ ints → 64 < h - t + m + n
+    → some (2 ∷ ip ∷ 5 ∷ []) ≡ first d (height-test ip (ints + (times + (h - t))))
+unfolding first height-test unless
+over d ip h t times ints m n z e f l = rw (z, lt-leb (ints + (times + (h - t))) 64 (omega arith))
+
+pub enough : (d : Option (List ℕ)) (ip h t times ints m n : ℕ) → d ≡ none → m ≡ times → n ≡ ints → h - t + m + n ≤ 64
+    → none ≡ first d (height-test ip (ints + (times + (h - t))))
+unfolding first height-test unless
+enough d ip h t times ints m n z e f l = rw (z, le-leb (ints + (times + (h - t))) 64 (omega arith))
+
+module _ (c : Chunk) (i : Instr) (locals ip : ℕ) (s : State) (r : Rule) (rules : Rules c ip i (stateOf locals s) r) (q : Verdict) (h : Roomed r (s .height) ip q) where
+  by-own : (d : Option (List ℕ)) → refusal (r .verdict) ≡ d
+      → refusal q ≡ first (own-tests c ip i (stackOf s)) (height-test ip (height (after c i (stateOf locals s))))
+  unfolding first
+  by-own none e =
+      h .tests ∙ ap (λ (z : Option (List ℕ)). first z (height-test ip (r .ints + (r .times + (s .height - r .take))))) e
+      ∙ ap (height-test ip) (sym (tall c i locals ip s r e rules))
+      ∙ ap (λ (z : Option (List ℕ)). first z (height-test ip (height (after c i (stateOf locals s))))) (sym (sym (rules .tests) ∙ e))
+  by-own (some l) e =
+      h .tests ∙ ap (λ (z : Option (List ℕ)). first z (height-test ip (r .ints + (r .times + (s .height - r .take))))) e
+      ∙ ap (λ (z : Option (List ℕ)). first z (height-test ip (height (after c i (stateOf locals s))))) (sym (sym (rules .tests) ∙ e))
+
+  pub settled : (m n : ℕ) (a : AnyState) → refusal q ≡ none → m ≡ r .times → n ≡ r .ints
       → a ≡ replaced (r .take) (valueOf (r .value)) m (scalar 3) n (stateOf locals s)
-      → pass none a
-      ≡ pass (first none (first (own-tests c ip i (stackOf s)) (height-test ip (height (after c i (stateOf locals s)))))) (after c i (stateOf locals s))
-  unfolding first height-test unless pass
-  enough m n a e f h g =
-      let k : height (after c i (stateOf locals s)) ≡ r .ints + (r .times + (s .height - r .take)) = tall in
-      rw (own-none, le-leb (height (after c i (stateOf locals s))) 64 (omega arith))
-      (ap ok (g ∙ ap₂ (λ (p q : ℕ). replaced (r .take) (valueOf (r .value)) p (scalar 3) q (stateOf locals s)) e f ∙ effect))
+      → pass none a ≡ pass (first (own-tests c ip i (stackOf s)) (height-test ip (height (after c i (stateOf locals s))))) (after c i (stateOf locals s))
+  settled m n a z e f g =
+      ap (pass none) (g ∙ ap₂ (λ (k j : ℕ). replaced (r .take) (valueOf (r .value)) k (scalar 3) j (stateOf locals s)) e f ∙ effect c i locals ip s r (h .room z .0) rules)
+      ∙ ap (λ (d : Option (List ℕ)). pass d (after c i (stateOf locals s))) (sym z ∙ by-own (refusal (r .verdict)) refl)
+
+  pub stopped : (a : AnyState) → is-none (refusal q) ≡ false
+      → pass (refusal q) a ≡ pass (first (own-tests c ip i (stackOf s)) (height-test ip (height (after c i (stateOf locals s))))) (after c i (stateOf locals s))
+  stopped a e =
+      refuses (refusal q) a (after c i (stateOf locals s)) e ∙ ap (λ (d : Option (List ℕ)). pass d (after c i (stateOf locals s))) (by-own (refusal (r .verdict)) refl)
 
 -- ── What is taken is at most what is needed ───────────────────────────────────────────────
 
@@ -120,7 +144,7 @@ module _ (c : Chunk) (ip k : ℕ) (s : AnyState) (v d : AnyShape) (top : v ≡ g
 
   pub local-refused : (b : Bool) (a : AnyState) → b ≡ fits-declared v d → b ≡ false
       → pass (some (13 ∷ ip ∷ k ∷ [])) a
-      ≡ pass (first none (first (own-tests c ip (SetLocal k) (s .stack)) (height-test ip (height (after c (SetLocal k) s))))) (after c (SetLocal k) s)
+      ≡ pass (first (own-tests c ip (SetLocal k) (s .stack)) (height-test ip (height (after c (SetLocal k) s)))) (after c (SetLocal k) s)
   unfolding unless first pass
   local-refused b a e f = rw (← local-tests b e, f)
 
@@ -132,7 +156,7 @@ module _ (c : Chunk) (ip k : ℕ) (s : AnyState) (v d : AnyShape) (top : v ≡ g
   pub local-done : (b : Bool) (a : AnyState) → b ≡ fits-declared v d → b ≡ true → 0 < length (s .stack) → length (s .stack) ≤ 64
       → a ≡ record { stack = drop 1 (s .stack); locals = set (s .locals) k v }
       → pass none a
-      ≡ pass (first none (first (own-tests c ip (SetLocal k) (s .stack)) (height-test ip (height (after c (SetLocal k) s))))) (after c (SetLocal k) s)
+      ≡ pass (first (own-tests c ip (SetLocal k) (s .stack)) (height-test ip (height (after c (SetLocal k) s)))) (after c (SetLocal k) s)
   unfolding unless first height-test after takes pushes set-local write pass
   local-done b a e f h l g =
       ap ok (g ∙ model refl (ap (set (s .locals) k) top ∙ written (s .stack) (s .locals) h))
@@ -144,27 +168,8 @@ module _ (c : Chunk) (ip k : ℕ) (s : AnyState) (v d : AnyShape) (top : v ≡ g
 
 -- ── 5, and 12 before it ───────────────────────────────────────────────────────────────────
 
-module _ (c : Chunk) (locals ip : ℕ) (i : Instr) (s : AnyState) (r : Step) where
-  pub stepped-after : (before : Option (List ℕ)) → before ≡ none → Stepped none c locals ip i s r → Stepped before c locals ip i s r
-  stepped-after before e h = subst (λ (z : Option (List ℕ)). Stepped z c locals ip i s r) (sym e) h
-
-  pub stepped-as : (before : Option (List ℕ)) (j : Instr) → j ≡ i → Stepped before c locals ip i s r → Stepped before c locals ip j s r
-  stepped-as before j e h = subst (λ (z : Instr). Stepped before c locals ip z s r) (sym e) h
-
-module _ (c : Chunk) (ip : ℕ) (i : Instr) (s : AnyState) (a : AnyState) where
-  -- a test before the instruction's own refuses
-  pub stop-before : (d : Option (List ℕ)) (q : Option (List ℕ)) → is-none d ≡ false → pass d a ≡ pass (first d q) (after c i s)
-  unfolding pass first
-  stop-before none q e = absurd (not-none none e refl)
-  stop-before (some l) q e = refl
-
-  pub stop-own : (d : Option (List ℕ)) (before : Option (List ℕ)) → before ≡ none → d ≡ own-tests c ip i (s .stack) → is-none d ≡ false
-      → pass d a ≡ pass (first before (first (own-tests c ip i (s .stack)) (height-test ip (height (after c i s))))) (after c i s)
-  unfolding first
-  stop-own d before e f g =
-      stop-before d (height-test ip (height (after c i s))) g
-      ∙ ap (λ (z : Option (List ℕ)). pass (first z (height-test ip (height (after c i s)))) (after c i s)) f
-      ∙ ap (λ (z : Option (List ℕ)). pass (first z (first (own-tests c ip i (s .stack)) (height-test ip (height (after c i s))))) (after c i s)) (sym e)
+pub stepped-as : (c : Chunk) (locals ip : ℕ) (i : Instr) (s : AnyState) (r : Step) (j : Instr) → j ≡ i → Stepped c locals ip i s r → Stepped c locals ip j s r
+stepped-as c locals ip i s r j e h = subst (λ (z : Instr). Stepped c locals ip z s r) (sym e) h
 
 pub under : (ip h n : ℕ) → h < n → some (5 ∷ ip ∷ []) ≡ need-test ip h n
 unfolding need-test unless
@@ -189,16 +194,16 @@ module _ (c : Chunk) (ip floor : ℕ) (i : Instr) (s : AnyState) (h n : ℕ) (hh
       ∙ ap₂ (λ (x y : ℕ). first (floor-test ip floor x y) (first (need-test ip x y) (first (own-tests c ip i (s .stack)) (height-test ip (height (after c i s))))))
       (sym hh) (sym hn)
 
-  pub examine-step : (d : Option (List ℕ)) → d ≡ floor-test ip floor h n → is-none d ≡ true
-      → pass (first (need-test ip h n) (first (own-tests c ip i (s .stack)) (height-test ip (height (after c i s))))) (after c i s) ≡ examine c ip floor i s
+  pub examine-step : (d : Option (List ℕ)) → d ≡ first (floor-test ip floor h n) (need-test ip h n) → is-none d ≡ true
+      → pass (first (own-tests c ip i (s .stack)) (height-test ip (height (after c i s)))) (after c i s) ≡ examine c ip floor i s
   unfolding examine first
   examine-step d e f =
-      ap (λ (z : Option (List ℕ)). pass (first z (first (need-test ip h n) (first (own-tests c ip i (s .stack)) (height-test ip (height (after c i s)))))) (after c i s)) (sym (is-none-eq d f) ∙ e)
-      ∙ ap (λ (z : Option (List ℕ)). pass z (after c i s)) (sym whole)
+      ap (λ (z : Option (List ℕ)). pass (first z (first (own-tests c ip i (s .stack)) (height-test ip (height (after c i s))))) (after c i s)) (sym (is-none-eq d f) ∙ e)
+      ∙ ap (λ (z : Option (List ℕ)). pass z (after c i s)) (first-first (floor-test ip floor h n) (need-test ip h n) (first (own-tests c ip i (s .stack)) (height-test ip (height (after c i s)))) ∙ sym whole)
 
-  pub examine-stop : (d : Option (List ℕ)) (a : AnyState) → d ≡ floor-test ip floor h n → is-none d ≡ false → pass d a ≡ examine c ip floor i s
+  pub examine-stop : (d : Option (List ℕ)) (a : AnyState) → d ≡ first (floor-test ip floor h n) (need-test ip h n) → is-none d ≡ false → pass d a ≡ examine c ip floor i s
   unfolding examine
   examine-stop d a e f =
-      stop-before c ip i s a d (first (need-test ip h n) (first (own-tests c ip i (s .stack)) (height-test ip (height (after c i s))))) f
-      ∙ ap (λ (z : Option (List ℕ)). pass (first z (first (need-test ip h n) (first (own-tests c ip i (s .stack)) (height-test ip (height (after c i s)))))) (after c i s)) e
-      ∙ ap (λ (z : Option (List ℕ)). pass z (after c i s)) (sym whole)
+      refuses d a (after c i s) f ∙ ap (λ (z : Option (List ℕ)). pass z (after c i s)) (first-refuses d (first (own-tests c ip i (s .stack)) (height-test ip (height (after c i s)))) f)
+      ∙ ap (λ (z : Option (List ℕ)). pass (first z (first (own-tests c ip i (s .stack)) (height-test ip (height (after c i s))))) (after c i s)) e
+      ∙ ap (λ (z : Option (List ℕ)). pass z (after c i s)) (first-first (floor-test ip floor h n) (need-test ip h n) (first (own-tests c ip i (s .stack)) (height-test ip (height (after c i s)))) ∙ sym whole)

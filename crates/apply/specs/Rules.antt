@@ -1,5 +1,5 @@
 -- The rule of one instruction: what the definition says of it after the tests of 12 and 5.
-use Prim.Native.Nat.{ℕ, _≤_}
+use Prim.Native.Nat.{ℕ, _+_, _-_, _≤_}
 use mathlib.Core.Path.{_≡_}
 use mathlib.Core.Bool.{Bool, true, false}
 use mathlib.Core.Option.{Option, none, some}
@@ -78,8 +78,13 @@ is-generic (GetFlat o f) = false
 is-generic (GetBoxed o n) = true
 is-generic (GetIndex e) = false
 
--- The step of an instruction: after a test that comes first, the definition's own; and its mark.
-pub record Stepped (before : Option (List ℕ)) (c : Chunk) (locals ip : ℕ) (i : Instr) (s : AnyState) (r : Step) : Type 0 where
-  pub result : resultOf locals r ≡ pass (first before (first (own-tests c ip i (s .stack)) (height-test ip (height (after c i s))))) (after c i s)
+-- a rule's own tests, then limit 5; where both pass there is room for what it pushes
+pub record Roomed (r : Rule) (h ip : ℕ) (q : Verdict) : Type 0 where
+  pub tests : refusal q ≡ first (refusal (r .verdict)) (height-test ip (r .ints + (r .times + (h - r .take))))
+  pub room : refusal q ≡ none → (refusal (r .verdict) ≡ none) × (h - r .take + r .times + r .ints ≤ 64)
+
+-- The step of an instruction after the tests of 12 and 5 is the definition's, and so is its mark.
+pub record Stepped (c : Chunk) (locals ip : ℕ) (i : Instr) (s : AnyState) (r : Step) : Type 0 where
+  pub result : resultOf locals r ≡ pass (first (own-tests c ip i (s .stack)) (height-test ip (height (after c i s)))) (after c i s)
   pub blind : r .blind ≡ is-blind (reading c i) (s .stack)
   pub low : r .state .height ≤ 64

@@ -32,7 +32,7 @@ ghost use Rattle.bytecode.specs.Parts.{declared-shape, constant-of, instrOf, Ef
 ghost use Rattle.shapes.specs.Text.{Means};
 ghost use Rattle.shapes.specs.Model.{valueOf, plainOf, stateOf, stackOf, placesOf, shapeOf};
 ghost use Rattle.apply.specs.Answers.{refusal, is-none, resultOf, Of, Within, Examined, seenWith};
-ghost use Rattle.apply.specs.Rules.{Otherwise, Rules, Body, Stepped, passingOf, refusingOf, is-generic};
+ghost use Rattle.apply.specs.Rules.{Otherwise, Rules, Roomed, Body, Stepped, passingOf, refusingOf, is-generic};
 
 // What an examination says: passed, or a refusal of the walk with the Rust's fields.
 pub enum Verdict {
@@ -690,7 +690,7 @@ pub struct Step {
 fn set_local(t: &[u64], x: Ctx, s: State, k: u32, ip: usize) -> Step
     requires { ⌜ Of (now t) (x .chunk) x ⌝ }
     requires { ⌜ (1 ≤ s .height) × (s .height ≤ 64) ⌝ }
-    ensures { λ r. ⌜ Stepped none (chunkOf (now (t .entry)) (x .chunk)) (x .locals) ip (SetLocal k) (stateOf (x .locals) s) r ⌝ }
+    ensures { λ r. ⌜ Stepped (chunkOf (now (t .entry)) (x .chunk)) (x .locals) ip (SetLocal k) (stateOf (x .locals) s) r ⌝ }
 {
     let v = s.operand(0);
     let shape = v.shape;
@@ -717,29 +717,22 @@ fn count(n: u8) -> usize
     n as usize
 }
 
-// A rule's effect on the state, if 64 operands are enough for it (limit 5).
-fn settle(s: State, r: Rule, ip: usize) -> Step
-    requires { ⌜ (r .take ≤ s .height) × (s .height ≤ 64) ⌝ }
-    ensures { λ q. ⌜ ((c : Chunk) (i : AnyInstr) (locals : ℕ) → locals ≤ 32 → refusal (r .verdict) ≡ none → Rules c ip i (stateOf locals s) r → Stepped none c locals ip i (stateOf locals s) q) ⌝ }
+// A rule's own tests, then limit 5: whether 64 operands are enough for what it pushes.
+fn check_room(r: Rule, height: usize, ip: usize) -> Verdict
+    requires { ⌜ (refusal (r .verdict) ≡ none → r .take ≤ height) × (height ≤ 64) ⌝ }
+    ensures { λ q. ⌜ Roomed r height ip q ⌝ }
 {
+    let verdict = r.verdict;
+    if verdict.passed() {} else {
+        return verdict;
+    }
     let take = r.take;
     let times = count(r.times);
     let ints = count(r.ints);
-    if 64 < s.height - take + times + ints {
-        return Step {
-            verdict: Verdict::Limit(ip, 5),
-            blind: r.blind,
-            state: s,
-        };
+    if 64 < height - take + times + ints {
+        return Verdict::Limit(ip, 5);
     }
-    let v = r.value;
-    let int = shapes::scalar_value(3);
-    let after = s.replace(take, v, times, int, ints);
-    Step {
-        verdict: Verdict::Passed,
-        blind: r.blind,
-        state: after,
-    }
+    Verdict::Passed
 }
 
 // ---- one instruction
@@ -813,31 +806,48 @@ fn check_floor(height: usize, need: usize, floor: usize, ip: usize) -> Verdict
     Verdict::Passed
 }
 
-// 5, the instruction's own tests, and its effect.
+// 12 and 5, before every rule.
+fn check_need(height: usize, need: usize, floor: usize, ip: usize) -> Verdict
+    requires { ⌜ (floor ≤ 64) × (need < 4294967296) ⌝ }
+    ensures { λ r. ⌜ (refusal r ≡ first (floor-test ip floor height need) (need-test ip height need)) × (refusal r ≡ none → need ≤ height) ⌝ }
+{
+    let verdict = check_floor(height, need, floor, ip);
+    if verdict.passed() {} else {
+        return verdict;
+    }
+    if height < need {
+        return Verdict::StackUnderflow(ip);
+    }
+    Verdict::Passed
+}
+
+// The instruction's own tests, and its effect.
 fn apply_op(t: &[u64], x: Ctx, i: Instr, e: Effect, s: State, ip: usize) -> Step
     requires { ⌜ Of (now t) (x .chunk) x ⌝ }
-    requires { ⌜ Within i × Effect-is i (x .«index_trap») (x .«host_trap») e × (s .height ≤ 64) ⌝ }
-    ensures { λ r. ⌜ Stepped (need-test ip (s .height) (e .need)) (chunkOf (now (t .entry)) (x .chunk)) (x .locals) ip (instrOf i) (stateOf (x .locals) s) r ⌝ }
+    requires { ⌜ Within i × Effect-is i (x .«index_trap») (x .«host_trap») e × (e .need ≤ s .height) × (s .height ≤ 64) ⌝ }
+    ensures { λ r. ⌜ Stepped (chunkOf (now (t .entry)) (x .chunk)) (x .locals) ip (instrOf i) (stateOf (x .locals) s) r ⌝ }
 {
-    if s.height < index(e.need) {
-        return Step {
-            verdict: Verdict::StackUnderflow(ip),
-            blind: met_unknown(i, s),
-            state: s,
-        };
-    }
     if i.code == 5 {
         return set_local(t, x, s, i.a, ip);
     }
     let r = rule_of(t, x, i, e, s, ip);
-    let verdict = r.verdict;
-    if verdict.passed() {
-        return settle(s, r, ip);
+    let verdict = check_room(r, s.height, ip);
+    if verdict.passed() {} else {
+        return Step {
+            verdict: verdict,
+            blind: r.blind,
+            state: s,
+        };
     }
+    let v = r.value;
+    let times = count(r.times);
+    let ints = count(r.ints);
+    let int = shapes::scalar_value(3);
+    let after = s.replace(r.take, v, times, int, ints);
     Step {
-        verdict: verdict,
+        verdict: Verdict::Passed,
         blind: r.blind,
-        state: s,
+        state: after,
     }
 }
 
@@ -846,7 +856,7 @@ pub fn examine(t: &[u64], x: Ctx, i: Instr, ip: usize, floor: usize, s: State) -
     ensures { λ r. ⌜ Examined (now (t .entry)) x i ip floor s r ⌝ }
 {
     let e = bytecode::op_depth_effect(i, x.index_trap, x.host_trap);
-    let verdict = check_floor(s.height, index(e.need), floor, ip);
+    let verdict = check_need(s.height, index(e.need), floor, ip);
     if verdict.passed() {
         return apply_op(t, x, i, e, s, ip);
     }

@@ -23,7 +23,7 @@ use Rattle.theorems.specs.Fuel.{full, full-visit, full-end}
 use Rattle.shapes.specs.declared.State.{State}
 use Rattle.shapes.specs.Model.{stateOf, stackOf, localsOf}
 use Rattle.bytecode.specs.Meaning.{chunkOf, first-op, op-count, localsAt, instrAt, code-length, chunk-locals}
-use Rattle.walk.specs.Outcomes.{numbers, pendingOf, breaksOf, flowOf, walkedOf, onwardOf, restOf, leavingOf, leftOf, fallOf, meets, after-last, loopOf, Open}
+use Rattle.walk.specs.Outcomes.{numbers, pendingOf, breaksOf, flowOf, walkedOf, onwardOf, restOf, leavingOf, leftOf, fallOf, meets, after-last, after-loop, loopOf, Open}
 use Rattle.apply.specs.Answers.{is-none, refusal}
 use Rattle.walk.specs.Ready.{sheetsOf, Placed, Ready, chunkIn, instrIn, Examined, markIn, visitIn, straight, leads, armsIn, forgotten, lastIn}
 use Rattle.walk.specs.declared.Refusal.{Refusal}
@@ -31,7 +31,6 @@ use Rattle.walk.specs.declared.Refusal.the-variants.{Instruction}
 use Rattle.walk.specs.declared.Flow.{Flow}
 use Rattle.walk.specs.declared.Flow.the-variants.{Refused, Ended, Falls}
 use Rattle.walk.specs.declared.Leaving.{Leaving}
-use Rattle.walk.specs.declared.Leaving.the-variants.{Stopped, After}
 use Rattle.walk.specs.declared.Pending.the-variants.{Nothing}
 use Rattle.apply.specs.declared.Step.{Step}
 use Rattle.walk.specs.declared.Breaks.{Breaks}
@@ -464,14 +463,9 @@ module _ (t : List ℕ) (x : Ctx) (target ip end floor : ℕ) (s : State) (b : B
       ap (λ (z : Result AnyLeft). z >>= λ (y : AnyLeft). full (chunkIn t x) target end floor (y .state) (breaksOf (x .locals) b) (y .sheets))
       (ap (leavingOf (x .locals) l sh) (sym e) ∙ P ∙ ap (loopOf (chunkIn t x) ip target (stateOf (x .locals) s)) (quiet-mark t x ip s h bl h₁ there refl f m))
 
-  pub loop-stopped : {q : Refusal} → l .leaving ≡ Stopped q → refused (numbers q) ≡ visitIn t x ip end floor s b (sheetsOf h bl) (loopTo target)
-  unfolding leavingOf _>>=_
-  loop-stopped e = around-loop e
-
-  pub loop-after : l .leaving ≡ After →
-      full (chunkIn t x) target end floor (stateOf (x .locals) (l .state)) (breaksOf (x .locals) b) sh ≡ visitIn t x ip end floor s b (sheetsOf h bl) (loopTo target)
-  unfolding leavingOf _>>=_
-  loop-after e = around-loop e
+  pub loop-left : after-loop (chunkIn t x) target end floor (breaksOf (x .locals) b) (leftOf (x .locals) l sh) ≡ visitIn t x ip end floor s b (sheetsOf h bl) (loopTo target)
+  unfolding after-loop
+  loop-left = around-loop refl
 
 -- ── Where blocks lie ──────────────────────────────────────────────────────────────────────
 

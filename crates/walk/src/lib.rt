@@ -7,7 +7,7 @@ ghost use lib.ListN.{length, set, getD};
 ghost use mathlib.Core.List.{[], _∷_};
 ghost use mathlib.Core.Option.{none, some};
 ghost use Rattle.definition.specs.Basics.{ok, refused};
-ghost use Rattle.definition.specs.Instructions.{control, stops, breakIfTo, ifTo, loopTo};
+ghost use Rattle.definition.specs.Instructions.{Chunk, control, stops, breakIfTo, ifTo, loopTo};
 ghost use Rattle.definition.specs.Nesting.{else-at};
 ghost use Rattle.definition.specs.Shapes.{unknown};
 ghost use Rattle.definition.specs.Check.{walk-all};
@@ -218,6 +218,32 @@ fn last_end(o: Outcome, head: State, ip: usize, locals: usize) -> Left
             }
             not_neutral(ip, head, e)
         }
+    }
+}
+
+// What comes after a loop, with the breaks of the one around it.
+fn onward_after(l: Left, b: Breaks, next: usize) -> Onward
+    ensures { λ r. ⌜ (r .next ≡ next) × (r .out .state .height ≡ l .state .height) × (r .out .breaks .state .height ≡ b .state .height) × ((c : Chunk) (locals end floor : ℕ) (sh : Sheets) → restOf c locals end floor r sh ≡ after-loop c next end floor (breaksOf locals b) (leftOf locals l sh)) ⌝ }
+{
+    let f = l.leaving;
+    let u = l.state;
+    match f {
+        Leaving::Stopped(r) => Onward {
+            next: next,
+            out: Outcome {
+                flow: Flow::Refused(r),
+                state: u,
+                breaks: b,
+            },
+        },
+        Leaving::After => Onward {
+            next: next,
+            out: Outcome {
+                flow: Flow::Falls,
+                state: u,
+                breaks: b,
+            },
+        },
     }
 }
 
@@ -732,26 +758,7 @@ fn loop_at(
     let h = s.height;
     mark_height(heights, first + ip, h);
     let l = passes_at(t, heights, blinds, x, ip, target, s);
-    let f = l.leaving;
-    let u = l.state;
-    match f {
-        Leaving::Stopped(r) => Onward {
-            next: target,
-            out: Outcome {
-                flow: Flow::Refused(r),
-                state: u,
-                breaks: b,
-            },
-        },
-        Leaving::After => Onward {
-            next: target,
-            out: Outcome {
-                flow: Flow::Falls,
-                state: u,
-                breaks: b,
-            },
-        },
-    }
+    onward_after(l, b, target)
 }
 
 // The passes over the body of the loop at ip: the head is stable, the body has no end, or the last pass is made.

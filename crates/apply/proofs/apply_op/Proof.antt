@@ -1,103 +1,115 @@
 use mathlib.Core.Path.{_≡_, sym, ap, subst, _∙_}
-use mathlib.Core.Option.{Option, none}
-use mathlib.Core.List.{List}
-use Prim.Native.Nat.{ℕ, _≤_, _<_}
-use Rattle.definition.specs.Basics.{pass}
+use Prim.Native.Nat.{ℕ, _≤_}
+use Rattle.definition.specs.Shapes.{Shape as AnyShape}
 use Rattle.definition.specs.Effects.{need}
-use Rattle.definition.specs.Walk.{need-test}
 use Rattle.bytecode.specs.Meaning.{chunkOf}
 use Rattle.bytecode.specs.Parts.{instrOf}
-use Rattle.shapes.specs.Model.{stateOf}
-use Rattle.apply.specs.Answers.{refusal, is-none}
+use Rattle.shapes.specs.Model.{stateOf, valueOf, replaced}
+use Rattle.apply.specs.Answers.{refusal}
 use Rattle.apply.proofs.Tests.{is-none-eq}
 use Rattle.apply.proofs.Numbers.{locals-fit, effect-of}
 use Rattle.apply.proofs.Codes.{is-set-local, local-need}
-use Rattle.apply.proofs.Steps.{take-fits, stepped-after, stepped-as, stop-before, stop-own, under, not-under}
+use Rattle.apply.proofs.Steps.{take-fits, stepped-as, settled, stopped}
+use native.Mathlib.Omega.{arith}
 use borrow.Author.Needs.{needs}
 use Rattle.apply.proofs.apply_op.Statement.{statement}
 use Rattle.apply.proofs.apply_op.Tie as tie
-use native.Mathlib.Omega.{arith}
+use Rattle.apply.proofs.apply_op.Reads as reads
+use Rattle.apply.proofs.apply_op.Lts as lts
+use Rattle.apply.proofs.Verdict.passed.Reads as passed-reads
+use Rattle.apply.proofs.check_room.Reads as check-room-reads
+use Rattle.apply.proofs.count.Reads as count-reads
+use Rattle.apply.proofs.rule_of.Reads as rule-of-reads
+use Rattle.apply.proofs.set_local.Reads as set-local-reads
+use Rattle.shapes.proofs.State.replace.Reads as replace-reads
+use Rattle.shapes.proofs.scalar_value.Reads as scalar-value-reads
 
-index-requires : tie.Need-index-requires
-index-requires c κs = search needs
-
-met-unknown-requires : tie.Need-met-unknown-requires
-met-unknown-requires c κs = search needs
-
-returns : tie.Need-returns
-unfolding refusal
-returns c =
-    let a = c .before .before .before .before .before .args in
-    let d = chunkOf (a .t .now) (a .x .chunk) in
-    let s = stateOf (a .x .locals) (a .s) in
-    let u = under (a .ip) (a .s .height) (a .e .need) (subst (λ (n : ℕ). (a .s .height) < n) (c .before .before .before .index .ensures) (c .before .if1 .taken)) in
-    record {
-      result = ap (λ (z : Option (List ℕ)). pass z s) u ∙ stop-before d (a .ip) (instrOf (a .i)) s s (need-test (a .ip) (a .s .height) (a .e .need)) _ (ap is-none (sym u));
-      blind = c .met-unknown .ensures d;
-      low = search needs;
-    }
-
+-- src/lib.rt:831:9
 set-local-requires : tie.Need-set-local-requires
 set-local-requires c κs =
-    let a = c .before .before .before .before .before .before .args in
+    let a = c .before .before .before .args in
     let d = chunkOf (a .t .now) (a .x .chunk) in
-    let n : (a .e .need) ≡ need d (instrOf (a .i)) = effect-of (a .t .now) (a .x .chunk) (a .x) (a .i) (a .e) (c .before .before .before .before .before .before .pre .0) (c .before .before .before .before .before .before .pre .1 .1) .0 in
-    let m : need d (instrOf (a .i)) ≡ 1 = local-need (a .i) d (c .if2 .taken) in
-    let k : (c .before .before .before .before .index .result) ≡ (a .e .need) = c .before .before .before .before .index .ensures in
-    (c .before .before .before .before .before .before .pre .0, (omega arith, c .before .before .before .before .before .before .pre .1 .2))
+    let n : (a .e .need) ≡ need d (instrOf (a .i)) = effect-of (a .t .now) (a .x .chunk) (a .x) (a .i) (a .e) (c .before .before .before .pre .0) (c .before .before .before .pre .1 .1) .0 in
+    let m : need d (instrOf (a .i)) ≡ 1 = local-need (a .i) d (c .if1 .taken) in
+    let k : (a .e .need) ≤ (a .s .height) = c .before .before .before .pre .1 .2 in
+    (c .before .before .before .pre .0, (omega arith, c .before .before .before .pre .1 .3))
 
-returns-2 : tie.Need-returns-2
-returns-2 c =
-    let a = c .before .before .before .before .before .before .before .args in
-    let d = chunkOf (a .t .now) (a .x .chunk) in
-    let s = stateOf (a .x .locals) (a .s) in
-    let u = not-under (a .ip) (a .s .height) (a .e .need) (subst (λ (n : ℕ). n ≤ (a .s .height)) (c .before .before .before .before .before .index .ensures) (c .before .before .before .if1 .left)) in
-    stepped-after d (a .x .locals) (a .ip) (instrOf (a .i)) s (c .set-local .result) _ u (stepped-as d (a .x .locals) (a .ip) _ s (c .set-local .result) none (instrOf (a .i)) (is-set-local (a .i) (c .before .if2 .taken)) (c .set-local .ensures))
+-- src/lib.rt:831:9
+returns : tie.Need-returns
+returns c =
+    let a = c .before .before .before .before .args in
+    stepped-as (chunkOf (a .t .now) (a .x .chunk)) (a .x .locals) (a .ip) _ (stateOf (a .x .locals) (a .s)) (c .set-local .result) (instrOf (a .i)) (is-set-local (a .i) (c .before .if1 .taken)) (c .set-local .ensures)
 
+-- src/lib.rt:833:9
 rule-of-requires : tie.Need-rule-of-requires
-rule-of-requires c κs = (c .before .before .before .before .before .before .pre .0, (c .before .before .before .before .before .before .pre .1 .0, c .if2 .left, c .before .before .before .before .before .before .pre .1 .1, subst (λ (n : ℕ). n ≤ (c .before .before .before .before .before .before .args .s .height)) (c .before .before .before .before .index .ensures) (c .before .before .if1 .left), c .before .before .before .before .before .before .pre .1 .2))
+rule-of-requires c κs = (c .before .before .before .pre .0, (c .before .before .before .pre .1 .0, c .if1 .left, c .before .before .before .pre .1 .1, c .before .before .before .pre .1 .2, c .before .before .before .pre .1 .3))
 
+-- src/lib.rt:834:9
+check-room-requires : tie.Need-check-room-requires
+check-room-requires c κs =
+    let a = c .before .before .before .before .args in
+    let d = chunkOf (a .t .now) (a .x .chunk) in
+    (λ z. take-fits d (a .ip) (instrOf (a .i)) (stateOf (a .x .locals) (a .s)) (c .rule-of .result) (a .e .need) (a .s .height) (c .rule-of .ensures) z (effect-of (a .t .now) (a .x .chunk) (a .x) (a .i) (a .e) (c .before .before .before .before .pre .0) (c .before .before .before .before .pre .1 .1) .0) (c .before .before .before .before .pre .1 .2), c .before .before .before .before .pre .1 .3)
+
+-- src/lib.rt:835:8
 passed-requires : tie.Need-passed-requires
 passed-requires c κs = search needs
 
-settle-requires : tie.Need-settle-requires
-settle-requires c κs =
-    let a = c .before .before .before .before .before .before .before .before .before .args in
-    let d = chunkOf (a .t .now) (a .x .chunk) in
-    let s = stateOf (a .x .locals) (a .s) in
-    (take-fits d (a .ip) (instrOf (a .i)) s (c .before .before .rule-of .result) (a .e .need) (a .s .height) (c .before .before .rule-of .ensures) (is-none-eq _ (sym (c .before .passed .ensures) ∙ c .if3 .taken)) (effect-of (a .t .now) (a .x .chunk) (a .x) (a .i) (a .e) (c .before .before .before .before .before .before .before .before .before .pre .0) (c .before .before .before .before .before .before .before .before .before .pre .1 .1) .0) (subst (λ (n : ℕ). n ≤ (a .s .height)) (c .before .before .before .before .before .before .before .index .ensures) (c .before .before .before .before .before .if1 .left)), c .before .before .before .before .before .before .before .before .before .pre .1 .2)
-
-returns-3 : tie.Need-returns-3
-returns-3 c =
-    let a = c .before .before .before .before .before .before .before .before .before .before .args in
-    let d = chunkOf (a .t .now) (a .x .chunk) in
-    let s = stateOf (a .x .locals) (a .s) in
-    let u = not-under (a .ip) (a .s .height) (a .e .need) (subst (λ (n : ℕ). n ≤ (a .s .height)) (c .before .before .before .before .before .before .before .before .index .ensures) (c .before .before .before .before .before .before .if1 .left)) in
-    stepped-after d (a .x .locals) (a .ip) (instrOf (a .i)) s (c .settle .result) _ u (c .settle .ensures d (instrOf (a .i)) (a .x .locals) (locals-fit _ _ _ (c .before .before .before .before .before .before .before .before .before .before .pre .0)) (is-none-eq _ (sym (c .before .before .passed .ensures) ∙ c .before .if3 .taken)) (c .before .before .before .rule-of .ensures))
-
-returns-4 : tie.Need-returns-4
-returns-4 c =
-    let a = c .before .before .before .before .before .before .before .before .before .args in
-    let d = chunkOf (a .t .now) (a .x .chunk) in
-    let s = stateOf (a .x .locals) (a .s) in
-    let u = not-under (a .ip) (a .s .height) (a .e .need) (subst (λ (n : ℕ). n ≤ (a .s .height)) (c .before .before .before .before .before .before .before .index .ensures) (c .before .before .before .before .before .if1 .left)) in
+-- src/lib.rt:836:9
+returns-2 : tie.Need-returns-2
+returns-2 c =
+    let a = c .before .before .before .before .before .before .before .args in
     record {
-      result = stop-own d (a .ip) (instrOf (a .i)) s s (refusal (c .before .before .rule-of .result .verdict)) _ u (c .before .before .rule-of .ensures .tests) (sym (c .before .passed .ensures) ∙ c .if3 .left);
-      blind = c .before .before .rule-of .ensures .blind;
-      low = search needs;
+      result = stopped (chunkOf (a .t .now) (a .x .chunk)) (instrOf (a .i)) (a .x .locals) (a .ip) (a .s) (c .before .before .before .rule-of .result) (c .before .before .before .rule-of .ensures) (c .before .before .check-room .result) (c .before .before .check-room .ensures) (stateOf (a .x .locals) (a .s)) (sym (c .before .passed .ensures) ∙ c .if2 .left);
+      blind = c .before .before .before .rule-of .ensures .blind;
+      low = c .before .before .before .before .before .before .before .pre .1 .3;
+    }
+
+-- src/lib.rt:843:9
+count-requires : tie.Need-count-requires
+count-requires c κs = search needs
+
+-- src/lib.rt:844:9
+count-requires-2 : tie.Need-count-requires-2
+count-requires-2 c κs = search needs
+
+-- src/lib.rt:845:9
+scalar-value-requires : tie.Need-scalar-value-requires
+scalar-value-requires c κs = search needs
+
+-- src/lib.rt:846:9
+replace-requires : tie.Need-replace-requires
+replace-requires c κs =
+    let a = c .before .before .before .before .before .before .before .before .before .before .before .args in
+    let d = chunkOf (a .t .now) (a .x .chunk) in
+    let z = c .before .before .before .before .before .before .check-room .ensures .room (is-none-eq _ (sym (c .before .before .before .before .before .passed .ensures) ∙ c .before .before .before .before .if2 .taken)) in
+    (take-fits d (a .ip) (instrOf (a .i)) (stateOf (a .x .locals) (a .s)) (c .before .before .before .before .before .before .before .rule-of .result) (a .e .need) (a .s .height) (c .before .before .before .before .before .before .before .rule-of .ensures) (z .0) (effect-of (a .t .now) (a .x .chunk) (a .x) (a .i) (a .e) (c .before .before .before .before .before .before .before .before .before .before .before .pre .0) (c .before .before .before .before .before .before .before .before .before .before .before .pre .1 .1) .0) (c .before .before .before .before .before .before .before .before .before .before .before .pre .1 .2), omega (arith, z .1, c .before .before .count .ensures .0, c .before .count2 .ensures .0))
+
+-- src/lib.rt:825:1
+returns-3 : tie.Need-returns-3
+unfolding refusal
+returns-3 c =
+    let a = c .before .before .before .before .before .before .before .before .before .before .before .before .args in
+    let z = is-none-eq _ (sym (c .before .before .before .before .before .before .passed .ensures) ∙ c .before .before .before .before .before .if2 .taken) in
+    record {
+      result = settled (chunkOf (a .t .now) (a .x .chunk)) (instrOf (a .i)) (a .x .locals) (a .ip) (a .s) (c .before .before .before .before .before .before .before .before .rule-of .result) (c .before .before .before .before .before .before .before .before .rule-of .ensures) (c .before .before .before .before .before .before .before .check-room .result) (c .before .before .before .before .before .before .before .check-room .ensures) _ _ _ z (c .before .before .before .count .ensures .0) (c .before .before .count2 .ensures .0)
+          (c .replace .ensures .1 (a .x .locals) (locals-fit _ _ _ (c .before .before .before .before .before .before .before .before .before .before .before .before .pre .0)) ∙ ap (λ (w : AnyShape). replaced (c .before .before .before .before .before .before .before .before .rule-of .result .take) (valueOf (c .before .before .before .before .before .before .before .before .rule-of .result .value)) (c .before .before .before .count .result) w (c .before .before .count2 .result) (stateOf (a .x .locals) (a .s))) (c .before .scalar-value .ensures));
+      blind = c .before .before .before .before .before .before .before .before .rule-of .ensures .blind;
+      low = omega (arith, c .replace .ensures .0, c .before .before .before .before .before .before .before .check-room .ensures .room z .1, c .before .before .before .count .ensures .0, c .before .before .count2 .ensures .0);
     }
 
 pub apply-op-spec : {M : Type 1} → statement M
 apply-op-spec =
     tie.close
     (tie.spec
-    index-requires
-    met-unknown-requires
-    returns
     set-local-requires
-    returns-2
+    returns
     rule-of-requires
+    check-room-requires
     passed-requires
-    settle-requires
-    returns-3
-    returns-4)
+    returns-2
+    count-requires
+    count-requires-2
+    scalar-value-requires
+    replace-requires
+    returns-3)

@@ -63,6 +63,7 @@ use Rattle.walk.proofs.leaf_at.Reads as leaf-at-reads
 use Rattle.walk.proofs.leave_loop.Reads as leave-loop-reads
 use Rattle.walk.proofs.mark_height.Reads as mark-height-reads
 use Rattle.walk.proofs.not_neutral.Reads as not-neutral-reads
+use Rattle.walk.proofs.onward_after.Reads as onward-after-reads
 use Rattle.walk.proofs.refused_at.Reads as refused-at-reads
 use Rattle.walk.proofs.+arms_at+block_at+if_at+interp_region+last_pass+loop_at+one_arm+passes_at+two_arms.{
   statement,
@@ -162,7 +163,7 @@ abbrev two-arms-below : ℕ → In 3 two-arms-kinds.ps
 two-arms-below t =
     and 3 two-arms-kinds.ps (falls 3 two-arms-kinds.ps _<_ μ-two-arms t) two-arms.Pre
 
--- src/lib.rt:623:9
+-- src/lib.rt:649:9
 arms-at-layout-of-requires : (t : ℕ) → arms-at-lts.Need-layout-of-requires (
   layout-of-reads.Asked,
   layout-of-reads.Learnt,
@@ -173,7 +174,7 @@ arms-at-layout-of-requires : (t : ℕ) → arms-at-lts.Need-layout-of-requires (
 ) (arms-at-at t) arms-at.Post
 arms-at-layout-of-requires t c κs = (c .before .before .before .pre .1 .0 .placed .of .first, c .before .before .before .pre .1 .0 .placed .of .count, c .before .before .before .pre .1 .0 .placed .of .within, Cycle.inside (c .before .before .before .args .t .now) (c .before .before .before .args .heights .now) (c .before .before .before .args .blinds .now) (c .before .before .before .args .x) (c .before .before .before .args .ip) (c .before .before .before .args .end) (c .before .before .before .args .floor) _ _ (c .before .before .before .pre .1 .0) (c .before .before .before .pre .1 .1 .0))
 
--- src/lib.rt:625:38
+-- src/lib.rt:651:38
 arms-at-enum-told : (t : ℕ) → arms-at-lts.Need-enum-told (
   layout-of-reads.Asked,
   layout-of-reads.Learnt,
@@ -184,7 +185,7 @@ arms-at-enum-told : (t : ℕ) → arms-at-lts.Need-enum-told (
 ) (arms-at-at t) arms-at.Post
 arms-at-enum-told t c = search needs
 
--- src/lib.rt:625:27
+-- src/lib.rt:651:27
 arms-at-one-arm-requires : (t : ℕ) → arms-at-lts.Need-one-arm-requires (
   layout-of-reads.Asked,
   layout-of-reads.Learnt,
@@ -196,7 +197,7 @@ arms-at-one-arm-requires : (t : ℕ) → arms-at-lts.Need-one-arm-requires (
 unfolding Outcomes.elseOf
 arms-at-one-arm-requires t c κs = (omega (arith, c .before .before .before .before .before .before .before .before .pre .0, (c .before .before .before .before .before .before .before .before .pre .1 .1 .0)), (c .before .before .before .before .before .before .before .before .pre .1 .0, ((c .before .before .before .before .before .before .before .before .pre .1 .1 .0), (c .before .before .before .before .before .before .before .before .pre .1 .1 .1), (ap Outcomes.elseOf (sym (c .before .before .enum-told .given .1)) ∙ c .before .before .before .before .layout-of .ensures))))
 
--- src/lib.rt:626:25
+-- src/lib.rt:652:25
 arms-at-enum-known-l : (t : ℕ) → arms-at-lts.Need-enum-known-l (
   layout-of-reads.Asked,
   layout-of-reads.Learnt,
@@ -207,7 +208,7 @@ arms-at-enum-known-l : (t : ℕ) → arms-at-lts.Need-enum-known-l (
 ) (arms-at-at t) arms-at.Post
 arms-at-enum-known-l t c = search needs
 
--- src/lib.rt:627:13
+-- src/lib.rt:653:13
 arms-at-two-arms-requires : (t : ℕ) → arms-at-lts.Need-two-arms-requires (
   layout-of-reads.Asked,
   layout-of-reads.Learnt,
@@ -219,7 +220,7 @@ arms-at-two-arms-requires : (t : ℕ) → arms-at-lts.Need-two-arms-requires (
 unfolding Outcomes.elseOf
 arms-at-two-arms-requires t c κs = (omega (arith, c .before .before .before .before .before .before .before .before .before .pre .0, (c .before .before .before .before .before .before .before .before .before .pre .1 .1 .0)), (c .before .before .before .before .before .before .before .before .before .pre .1 .0, ((c .before .before .before .before .before .before .before .before .before .pre .1 .1 .0), (c .before .before .before .before .before .before .before .before .before .pre .1 .1 .1), (ap Outcomes.elseOf (sym (c .before .before .before .l .given .1)) ∙ c .before .before .before .before .before .layout-of .ensures))))
 
--- src/lib.rt:607:1
+-- src/lib.rt:633:1
 arms-at-same-length : (t : ℕ) → arms-at-lts.Need-same-length (
   layout-of-reads.Asked,
   layout-of-reads.Learnt,
@@ -230,7 +231,7 @@ arms-at-same-length : (t : ℕ) → arms-at-lts.Need-same-length (
 ) (arms-at-at t) arms-at.Post
 arms-at-same-length t c = search needs
 
--- src/lib.rt:607:1
+-- src/lib.rt:633:1
 arms-at-same-length-2 : (t : ℕ) → arms-at-lts.Need-same-length-2 (
   layout-of-reads.Asked,
   layout-of-reads.Learnt,
@@ -241,7 +242,7 @@ arms-at-same-length-2 : (t : ℕ) → arms-at-lts.Need-same-length-2 (
 ) (arms-at-at t) arms-at.Post
 arms-at-same-length-2 t c = search needs
 
--- src/lib.rt:607:1
+-- src/lib.rt:633:1
 arms-at-returns : (t : ℕ) → arms-at-lts.Need-returns (
   layout-of-reads.Asked,
   layout-of-reads.Learnt,
@@ -252,7 +253,7 @@ arms-at-returns : (t : ℕ) → arms-at-lts.Need-returns (
 ) (arms-at-at t) arms-at.Post
 arms-at-returns t c = c .before .before .before .before .one-arm .ensures
 
--- src/lib.rt:607:1
+-- src/lib.rt:633:1
 arms-at-same-length-3 : (t : ℕ) → arms-at-lts.Need-same-length-3 (
   layout-of-reads.Asked,
   layout-of-reads.Learnt,
@@ -263,7 +264,7 @@ arms-at-same-length-3 : (t : ℕ) → arms-at-lts.Need-same-length-3 (
 ) (arms-at-at t) arms-at.Post
 arms-at-same-length-3 t c = search needs
 
--- src/lib.rt:607:1
+-- src/lib.rt:633:1
 arms-at-same-length-4 : (t : ℕ) → arms-at-lts.Need-same-length-4 (
   layout-of-reads.Asked,
   layout-of-reads.Learnt,
@@ -274,7 +275,7 @@ arms-at-same-length-4 : (t : ℕ) → arms-at-lts.Need-same-length-4 (
 ) (arms-at-at t) arms-at.Post
 arms-at-same-length-4 t c = search needs
 
--- src/lib.rt:607:1
+-- src/lib.rt:633:1
 arms-at-returns-2 : (t : ℕ) → arms-at-lts.Need-returns-2 (
   layout-of-reads.Asked,
   layout-of-reads.Learnt,
@@ -285,7 +286,7 @@ arms-at-returns-2 : (t : ℕ) → arms-at-lts.Need-returns-2 (
 ) (arms-at-at t) arms-at.Post
 arms-at-returns-2 t c = c .before .before .before .before .two-arms .ensures
 
--- src/lib.rt:574:15
+-- src/lib.rt:600:15
 block-at-loop-at-requires : (t : ℕ) → block-at-lts.Need-loop-at-requires (
   loop-at-below t,
   loop-at.Post,
@@ -297,7 +298,7 @@ block-at-loop-at-requires : (t : ℕ) → block-at-lts.Need-loop-at-requires (
 unfolding Ready.leads
 block-at-loop-at-requires t c κs = (omega (arith, c .before .before .before .before .before .before .pre .0, (c .before .before .before .before .before .before .pre .1 .1 .0)), (c .before .before .before .before .before .before .pre .1 .0, ((c .before .before .before .before .before .before .pre .1 .1 .0), (c .before .before .before .before .before .before .pre .1 .1 .3) ∙ ap (λ (k : ℕ). Ready.leads k (c .before .before .before .before .before .before .args .target)) (c .before .before .match .keys1))))
 
--- src/lib.rt:575:15
+-- src/lib.rt:601:15
 block-at-if-at-requires : (t : ℕ) → block-at-lts.Need-if-at-requires (
   loop-at-below t,
   loop-at.Post,
@@ -309,7 +310,7 @@ block-at-if-at-requires : (t : ℕ) → block-at-lts.Need-if-at-requires (
 unfolding Ready.leads
 block-at-if-at-requires t c κs = (omega (arith, c .before .before .before .before .before .before .pre .0, (c .before .before .before .before .before .before .pre .1 .1 .0)), (c .before .before .before .before .before .before .pre .1 .0, ((c .before .before .before .before .before .before .pre .1 .1 .0), (c .before .before .before .before .before .before .pre .1 .1 .3) ∙ ap (λ (k : ℕ). Ready.leads k (c .before .before .before .before .before .before .args .target)) (c .before .before .match .keys2))))
 
--- src/lib.rt:576:14
+-- src/lib.rt:602:14
 block-at-leaf-at-requires : (t : ℕ) → block-at-lts.Need-leaf-at-requires (
   loop-at-below t,
   loop-at.Post,
@@ -320,7 +321,7 @@ block-at-leaf-at-requires : (t : ℕ) → block-at-lts.Need-leaf-at-requires (
 ) (block-at-at t) block-at.Post
 block-at-leaf-at-requires t c κs = (c .before .before .before .before .before .before .pre .1 .0 .placed, ((Cycle.inside (c .before .before .before .before .before .before .args .t .now) (c .before .before .before .before .before .before .args .heights .now) (c .before .before .before .before .before .before .args .blinds .now) (c .before .before .before .before .before .before .args .x) (c .before .before .before .before .before .before .args .ip) (c .before .before .before .before .before .before .args .end) (c .before .before .before .before .before .before .args .floor) _ _ (c .before .before .before .before .before .before .pre .1 .0) (c .before .before .before .before .before .before .pre .1 .1 .0), c .before .before .before .before .before .before .pre .1 .0 .floor-low, c .before .before .before .before .before .before .pre .1 .0 .height-low, c .before .before .before .before .before .before .pre .1 .0 .breaks-low, c .before .before .before .before .before .before .pre .1 .1 .1, c .before .before .before .before .before .before .pre .1 .1 .2, c .before .before .match .rest .1, c .before .before .match .rest .0 .1), (c .before .before .before .before .before .before .pre .1 .1 .3)))
 
--- src/lib.rt:556:1
+-- src/lib.rt:582:1
 block-at-same-length : (t : ℕ) → block-at-lts.Need-same-length (
   loop-at-below t,
   loop-at.Post,
@@ -331,7 +332,7 @@ block-at-same-length : (t : ℕ) → block-at-lts.Need-same-length (
 ) (block-at-at t) block-at.Post
 block-at-same-length t c = search needs
 
--- src/lib.rt:556:1
+-- src/lib.rt:582:1
 block-at-same-length-2 : (t : ℕ) → block-at-lts.Need-same-length-2 (
   loop-at-below t,
   loop-at.Post,
@@ -342,7 +343,7 @@ block-at-same-length-2 : (t : ℕ) → block-at-lts.Need-same-length-2 (
 ) (block-at-at t) block-at.Post
 block-at-same-length-2 t c = search needs
 
--- src/lib.rt:556:1
+-- src/lib.rt:582:1
 block-at-returns : (t : ℕ) → block-at-lts.Need-returns (
   loop-at-below t,
   loop-at.Post,
@@ -354,7 +355,7 @@ block-at-returns : (t : ℕ) → block-at-lts.Need-returns (
 unfolding Ready.leads
 block-at-returns t c = (c .before .before .before .before .loop-at .ensures .0 ∙ ap (λ (k : ℕ). Ready.visitIn (c .before .before .before .before .before .before .before .before .before .before .before .args .t .now) (c .before .before .before .before .before .before .before .before .before .before .before .args .x) (c .before .before .before .before .before .before .before .before .before .before .before .args .ip) (c .before .before .before .before .before .before .before .before .before .before .before .args .end) (c .before .before .before .before .before .before .before .before .before .before .before .args .floor) (c .before .before .before .before .before .before .before .before .before .before .before .args .s) (c .before .before .before .before .before .before .before .before .before .before .before .args .b) (Ready.sheetsOf (c .before .before .before .before .before .before .before .before .before .before .before .args .heights .now) (c .before .before .before .before .before .before .before .before .before .before .before .args .blinds .now)) (Ready.leads k (c .before .before .before .before .before .before .before .before .before .before .before .args .target))) (sym (c .before .before .before .before .before .before .before .match .keys1)), c .before .before .before .before .loop-at .ensures .1)
 
--- src/lib.rt:556:1
+-- src/lib.rt:582:1
 block-at-same-length-3 : (t : ℕ) → block-at-lts.Need-same-length-3 (
   loop-at-below t,
   loop-at.Post,
@@ -365,7 +366,7 @@ block-at-same-length-3 : (t : ℕ) → block-at-lts.Need-same-length-3 (
 ) (block-at-at t) block-at.Post
 block-at-same-length-3 t c = search needs
 
--- src/lib.rt:556:1
+-- src/lib.rt:582:1
 block-at-same-length-4 : (t : ℕ) → block-at-lts.Need-same-length-4 (
   loop-at-below t,
   loop-at.Post,
@@ -376,7 +377,7 @@ block-at-same-length-4 : (t : ℕ) → block-at-lts.Need-same-length-4 (
 ) (block-at-at t) block-at.Post
 block-at-same-length-4 t c = search needs
 
--- src/lib.rt:556:1
+-- src/lib.rt:582:1
 block-at-returns-2 : (t : ℕ) → block-at-lts.Need-returns-2 (
   loop-at-below t,
   loop-at.Post,
@@ -388,7 +389,7 @@ block-at-returns-2 : (t : ℕ) → block-at-lts.Need-returns-2 (
 unfolding Ready.leads
 block-at-returns-2 t c = (c .before .before .before .before .if-at .ensures .0 ∙ ap (λ (k : ℕ). Ready.visitIn (c .before .before .before .before .before .before .before .before .before .before .before .args .t .now) (c .before .before .before .before .before .before .before .before .before .before .before .args .x) (c .before .before .before .before .before .before .before .before .before .before .before .args .ip) (c .before .before .before .before .before .before .before .before .before .before .before .args .end) (c .before .before .before .before .before .before .before .before .before .before .before .args .floor) (c .before .before .before .before .before .before .before .before .before .before .before .args .s) (c .before .before .before .before .before .before .before .before .before .before .before .args .b) (Ready.sheetsOf (c .before .before .before .before .before .before .before .before .before .before .before .args .heights .now) (c .before .before .before .before .before .before .before .before .before .before .before .args .blinds .now)) (Ready.leads k (c .before .before .before .before .before .before .before .before .before .before .before .args .target))) (sym (c .before .before .before .before .before .before .before .match .keys2)), c .before .before .before .before .if-at .ensures .1)
 
--- src/lib.rt:556:1
+-- src/lib.rt:582:1
 block-at-same-length-5 : (t : ℕ) → block-at-lts.Need-same-length-5 (
   loop-at-below t,
   loop-at.Post,
@@ -399,7 +400,7 @@ block-at-same-length-5 : (t : ℕ) → block-at-lts.Need-same-length-5 (
 ) (block-at-at t) block-at.Post
 block-at-same-length-5 t c = search needs
 
--- src/lib.rt:556:1
+-- src/lib.rt:582:1
 block-at-same-length-6 : (t : ℕ) → block-at-lts.Need-same-length-6 (
   loop-at-below t,
   loop-at.Post,
@@ -410,7 +411,7 @@ block-at-same-length-6 : (t : ℕ) → block-at-lts.Need-same-length-6 (
 ) (block-at-at t) block-at.Post
 block-at-same-length-6 t c = search needs
 
--- src/lib.rt:556:1
+-- src/lib.rt:582:1
 block-at-returns-3 : (t : ℕ) → block-at-lts.Need-returns-3 (
   loop-at-below t,
   loop-at.Post,
@@ -421,7 +422,7 @@ block-at-returns-3 : (t : ℕ) → block-at-lts.Need-returns-3 (
 ) (block-at-at t) block-at.Post
 block-at-returns-3 t c = (sym (c .before .before .before .before .leaf-at .ensures .0 (c .before .before .before .before .before .before .before .before .before .before .before .args .end)), (omega (arith, c .before .before .before .before .leaf-at .ensures .1 .0), omega (arith, c .before .before .before .before .leaf-at .ensures .1 .0, (c .before .before .before .before .before .before .before .before .before .before .before .pre .1 .1 .0)), c .before .before .before .before .leaf-at .ensures .1 .1))
 
--- src/lib.rt:597:9
+-- src/lib.rt:623:9
 if-at-examine-at-requires : (t : ℕ) → if-at-lts.Need-examine-at-requires (
   examine-at-reads.Asked,
   examine-at-reads.Learnt,
@@ -434,7 +435,7 @@ if-at-examine-at-requires : (t : ℕ) → if-at-lts.Need-examine-at-requires (
 ) (if-at-at t) if-at.Post
 if-at-examine-at-requires t c κs = (c .before .before .before .before .before .pre .1 .0 .placed, (Cycle.inside (c .before .before .before .before .before .args .t .now) (c .before .before .before .before .before .args .heights .now) (c .before .before .before .before .before .args .blinds .now) (c .before .before .before .before .before .args .x) (c .before .before .before .before .before .args .ip) (c .before .before .before .before .before .args .end) (c .before .before .before .before .before .args .floor) _ _ (c .before .before .before .before .before .pre .1 .0) (c .before .before .before .before .before .pre .1 .1 .0), c .before .before .before .before .before .pre .1 .0 .floor-low, c .before .before .before .before .before .pre .1 .0 .height-low))
 
--- src/lib.rt:599:8
+-- src/lib.rt:625:8
 if-at-passed-requires : (t : ℕ) → if-at-lts.Need-passed-requires (
   examine-at-reads.Asked,
   examine-at-reads.Learnt,
@@ -447,7 +448,7 @@ if-at-passed-requires : (t : ℕ) → if-at-lts.Need-passed-requires (
 ) (if-at-at t) if-at.Post
 if-at-passed-requires t c κs = search needs
 
--- src/lib.rt:600:9
+-- src/lib.rt:626:9
 if-at-refused-at-requires : (t : ℕ) → if-at-lts.Need-refused-at-requires (
   examine-at-reads.Asked,
   examine-at-reads.Learnt,
@@ -460,7 +461,7 @@ if-at-refused-at-requires : (t : ℕ) → if-at-lts.Need-refused-at-requires (
 ) (if-at-at t) if-at.Post
 if-at-refused-at-requires t c κs = omega (arith, Cycle.inside (c .before .before .before .before .before .before .before .before .before .before .before .before .args .t .now) (c .before .before .before .before .before .before .before .before .before .before .before .before .args .heights .now) (c .before .before .before .before .before .before .before .before .before .before .before .before .args .blinds .now) (c .before .before .before .before .before .before .before .before .before .before .before .before .args .x) (c .before .before .before .before .before .before .before .before .before .before .before .before .args .ip) (c .before .before .before .before .before .before .before .before .before .before .before .before .args .end) (c .before .before .before .before .before .before .before .before .before .before .before .before .args .floor) _ _ (c .before .before .before .before .before .before .before .before .before .before .before .before .pre .1 .0) (c .before .before .before .before .before .before .before .before .before .before .before .before .pre .1 .1 .0), c .before .before .before .before .before .before .before .before .before .before .before .before .pre .1 .0 .placed .of .within)
 
--- src/lib.rt:600:9
+-- src/lib.rt:626:9
 if-at-same-length : (t : ℕ) → if-at-lts.Need-same-length (
   examine-at-reads.Asked,
   examine-at-reads.Learnt,
@@ -473,7 +474,7 @@ if-at-same-length : (t : ℕ) → if-at-lts.Need-same-length (
 ) (if-at-at t) if-at.Post
 if-at-same-length t c = search needs
 
--- src/lib.rt:600:9
+-- src/lib.rt:626:9
 if-at-same-length-2 : (t : ℕ) → if-at-lts.Need-same-length-2 (
   examine-at-reads.Asked,
   examine-at-reads.Learnt,
@@ -486,7 +487,7 @@ if-at-same-length-2 : (t : ℕ) → if-at-lts.Need-same-length-2 (
 ) (if-at-at t) if-at.Post
 if-at-same-length-2 t c = search needs
 
--- src/lib.rt:600:9
+-- src/lib.rt:626:9
 if-at-returns : (t : ℕ) → if-at-lts.Need-returns (
   examine-at-reads.Asked,
   examine-at-reads.Learnt,
@@ -499,7 +500,7 @@ if-at-returns : (t : ℕ) → if-at-lts.Need-returns (
 ) (if-at-at t) if-at.Post
 if-at-returns t c = (sym (Steps.visit-refused (c .before .before .before .before .before .before .before .before .before .before .before .before .before .args .t .now) (c .before .before .before .before .before .before .before .before .before .before .before .before .before .args .x) (c .before .before .before .before .before .before .before .before .before .before .before .before .before .args .ip) (c .before .before .before .before .before .before .before .before .before .before .before .before .before .args .floor) (c .before .before .before .before .before .before .before .before .before .before .before .before .before .args .s) (c .before .before .before .before .before .before .before .before .before .before .before .before .before .args .b) _ (c .before .before .before .before .before .before .before .examine-at .result) (c .before .before .before .before .before .before .before .examine-at .ensures .0) (ifTo (c .before .before .before .before .before .before .before .before .before .before .before .before .before .args .target)) tt (sym (c .before .before .passed .ensures) ∙ c .before .if1 .left) (c .before .before .before .before .before .before .before .before .before .before .before .before .before .args .end) (c .refused-at .result) _ (c .refused-at .ensures .1)), (omega (arith, c .refused-at .ensures .0), omega (arith, c .refused-at .ensures .0, (c .before .before .before .before .before .before .before .before .before .before .before .before .before .pre .1 .1 .0)), (subst (λ (z : State). z .height ≤ 64) (sym (c .refused-at .ensures .2)) (c .before .before .before .before .before .before .before .before .before .before .before .before .before .pre .1 .0 .height-low), subst (λ (z : Breaks). z .state .height ≤ 64) (sym (c .refused-at .ensures .3)) (c .before .before .before .before .before .before .before .before .before .before .before .before .before .pre .1 .0 .breaks-low))))
 
--- src/lib.rt:603:5
+-- src/lib.rt:629:5
 if-at-arms-at-requires : (t : ℕ) → if-at-lts.Need-arms-at-requires (
   examine-at-reads.Asked,
   examine-at-reads.Learnt,
@@ -512,7 +513,7 @@ if-at-arms-at-requires : (t : ℕ) → if-at-lts.Need-arms-at-requires (
 ) (if-at-at t) if-at.Post
 if-at-arms-at-requires t c κs = (omega (arith, c .before .before .before .before .before .before .before .before .before .before .before .before .before .before .before .pre .0, (c .before .before .before .before .before .before .before .before .before .before .before .before .before .before .before .pre .1 .1 .0)), (record { placed = Cycle.placed-by (c .before .before .before .before .before .before .before .before .before .before .before .before .before .before .before .args .t .now) (c .before .before .before .before .before .before .before .before .before .before .before .before .before .before .before .args .heights .now) (c .before .before .before .before .before .before .before .before .before .before .before .before .before .before .before .args .blinds .now) _ _ (c .before .before .before .before .before .before .before .before .before .before .before .before .before .before .before .args .x) (c .before .before .before .before .before .before .before .before .before .examine-at .kept .1 .0) (c .before .before .before .before .before .before .before .before .before .examine-at .kept .1 .1 .0) (c .before .before .before .before .before .before .before .before .before .before .before .before .before .before .before .pre .1 .0 .placed); from = c .before .before .before .before .before .before .before .before .before .before .before .before .before .before .before .pre .1 .0 .from; arm = c .before .before .before .before .before .before .before .before .before .before .before .before .before .before .before .pre .1 .0 .arm; after = c .before .before .before .before .before .before .before .before .before .before .before .before .before .before .before .pre .1 .0 .after; before = c .before .before .before .before .before .before .before .before .before .before .before .before .before .before .before .pre .1 .0 .before; floor-low = c .before .before .before .before .before .before .before .before .before .before .before .before .before .before .before .pre .1 .0 .floor-low; height-low = c .before .before .before .before .before .before .before .before .before .examine-at .ensures .0 .low; breaks-low = c .before .before .before .before .before .before .before .before .before .before .before .before .before .before .before .pre .1 .0 .breaks-low }, ((c .before .before .before .before .before .before .before .before .before .before .before .before .before .before .before .pre .1 .1 .0), (c .before .before .before .before .before .before .before .before .before .before .before .before .before .before .before .pre .1 .1 .1))))
 
--- src/lib.rt:581:1
+-- src/lib.rt:607:1
 if-at-same-length-3 : (t : ℕ) → if-at-lts.Need-same-length-3 (
   examine-at-reads.Asked,
   examine-at-reads.Learnt,
@@ -525,7 +526,7 @@ if-at-same-length-3 : (t : ℕ) → if-at-lts.Need-same-length-3 (
 ) (if-at-at t) if-at.Post
 if-at-same-length-3 t c = search needs
 
--- src/lib.rt:581:1
+-- src/lib.rt:607:1
 if-at-same-length-4 : (t : ℕ) → if-at-lts.Need-same-length-4 (
   examine-at-reads.Asked,
   examine-at-reads.Learnt,
@@ -538,7 +539,7 @@ if-at-same-length-4 : (t : ℕ) → if-at-lts.Need-same-length-4 (
 ) (if-at-at t) if-at.Post
 if-at-same-length-4 t c = search needs
 
--- src/lib.rt:581:1
+-- src/lib.rt:607:1
 if-at-returns-2 : (t : ℕ) → if-at-lts.Need-returns-2 (
   examine-at-reads.Asked,
   examine-at-reads.Learnt,
@@ -557,7 +558,7 @@ interp-region-Inv-loop t heights₀ blinds₀ x start end floor first ip₀ s₀
 abbrev interp-region-μ-loop : interp-region-lts.MeasureT-loop
 interp-region-μ-loop t heights₀ blinds₀ x start end floor first ip₀ s₀ b₀ heights blinds ip s b = end - ip
 
--- src/lib.rt:502:5
+-- src/lib.rt:528:5
 interp-region-loop-holds : (t : ℕ) → interp-region-lts.Need-loop-holds (
   instr-at-reads.Asked,
   instr-at-reads.Learnt,
@@ -572,7 +573,7 @@ interp-region-loop-holds : (t : ℕ) → interp-region-lts.Need-loop-holds (
 ) (interp-region-at t) interp-region.Post interp-region-Inv-loop interp-region-μ-loop
 interp-region-loop-holds t c = record { ready = c .before .before .before .pre .1; onward = omega arith; heights-same = refl; blinds-same = refl; on = refl }
 
--- src/lib.rt:503:39
+-- src/lib.rt:529:39
 interp-region-add-instr-at : (t : ℕ) → interp-region-lts.Need-add-instr-at (
   instr-at-reads.Asked,
   instr-at-reads.Learnt,
@@ -587,7 +588,7 @@ interp-region-add-instr-at : (t : ℕ) → interp-region-lts.Need-add-instr-at (
 ) (interp-region-at t) interp-region.Post interp-region-Inv-loop interp-region-μ-loop
 interp-region-add-instr-at t c = omega (arith, Cycle.inside (c .before .before .before .before .before .args .t .now) (c .before .loop .heights) (c .before .loop .blinds) (c .before .before .before .before .before .args .x) (c .before .loop .ip) (c .before .before .before .before .before .args .end) (c .before .before .before .before .before .args .floor) _ _ ((c .before .loop .inv) .ready) (c .loop-test .taken), c .before .before .before .before .before .pre .1 .placed .of .within)
 
--- src/lib.rt:503:13
+-- src/lib.rt:529:13
 interp-region-instr-at-requires : (t : ℕ) → interp-region-lts.Need-instr-at-requires (
   instr-at-reads.Asked,
   instr-at-reads.Learnt,
@@ -602,7 +603,7 @@ interp-region-instr-at-requires : (t : ℕ) → interp-region-lts.Need-instr-at-
 ) (interp-region-at t) interp-region.Post interp-region-Inv-loop interp-region-μ-loop
 interp-region-instr-at-requires t c κs = omega (arith, Cycle.inside (c .before .before .before .before .before .args .t .now) (c .before .loop .heights) (c .before .loop .blinds) (c .before .before .before .before .before .args .x) (c .before .loop .ip) (c .before .before .before .before .before .args .end) (c .before .before .before .before .before .args .floor) _ _ ((c .before .loop .inv) .ready) (c .loop-test .taken), c .before .before .before .before .before .pre .1 .placed .of .within)
 
--- src/lib.rt:506:12
+-- src/lib.rt:532:12
 interp-region-is-straight-requires : (t : ℕ) → interp-region-lts.Need-is-straight-requires (
   instr-at-reads.Asked,
   instr-at-reads.Learnt,
@@ -617,7 +618,7 @@ interp-region-is-straight-requires : (t : ℕ) → interp-region-lts.Need-is-str
 ) (interp-region-at t) interp-region.Post interp-region-Inv-loop interp-region-μ-loop
 interp-region-is-straight-requires t c κs = search needs
 
--- src/lib.rt:507:17
+-- src/lib.rt:533:17
 interp-region-examine-at-requires : (t : ℕ) → interp-region-lts.Need-examine-at-requires (
   instr-at-reads.Asked,
   instr-at-reads.Learnt,
@@ -632,7 +633,7 @@ interp-region-examine-at-requires : (t : ℕ) → interp-region-lts.Need-examine
 ) (interp-region-at t) interp-region.Post interp-region-Inv-loop interp-region-μ-loop
 interp-region-examine-at-requires t c κs = ((c .before .before .before .before .before .before .loop .inv) .ready .placed, (Cycle.inside (c .before .before .before .before .before .before .before .before .before .before .args .t .now) (c .before .before .before .before .before .before .loop .heights) (c .before .before .before .before .before .before .loop .blinds) (c .before .before .before .before .before .before .before .before .before .before .args .x) (c .before .before .before .before .before .before .loop .ip) (c .before .before .before .before .before .before .before .before .before .before .args .end) (c .before .before .before .before .before .before .before .before .before .before .args .floor) _ _ ((c .before .before .before .before .before .before .loop .inv) .ready) (c .before .before .before .before .before .loop-test .taken), c .before .before .before .before .before .before .before .before .before .before .pre .1 .floor-low, (c .before .before .before .before .before .before .loop .inv) .ready .height-low))
 
--- src/lib.rt:509:16
+-- src/lib.rt:535:16
 interp-region-passed-requires : (t : ℕ) → interp-region-lts.Need-passed-requires (
   instr-at-reads.Asked,
   instr-at-reads.Learnt,
@@ -647,7 +648,7 @@ interp-region-passed-requires : (t : ℕ) → interp-region-lts.Need-passed-requ
 ) (interp-region-at t) interp-region.Post interp-region-Inv-loop interp-region-μ-loop
 interp-region-passed-requires t c κs = search needs
 
--- src/lib.rt:510:17
+-- src/lib.rt:536:17
 interp-region-same-length : (t : ℕ) → interp-region-lts.Need-same-length (
   instr-at-reads.Asked,
   instr-at-reads.Learnt,
@@ -662,7 +663,7 @@ interp-region-same-length : (t : ℕ) → interp-region-lts.Need-same-length (
 ) (interp-region-at t) interp-region.Post interp-region-Inv-loop interp-region-μ-loop
 interp-region-same-length t c = search needs
 
--- src/lib.rt:510:17
+-- src/lib.rt:536:17
 interp-region-same-length-2 : (t : ℕ) → interp-region-lts.Need-same-length-2 (
   instr-at-reads.Asked,
   instr-at-reads.Learnt,
@@ -677,7 +678,7 @@ interp-region-same-length-2 : (t : ℕ) → interp-region-lts.Need-same-length-2
 ) (interp-region-at t) interp-region.Post interp-region-Inv-loop interp-region-μ-loop
 interp-region-same-length-2 t c = search needs
 
--- src/lib.rt:510:17
+-- src/lib.rt:536:17
 interp-region-returns : (t : ℕ) → interp-region-lts.Need-returns (
   instr-at-reads.Asked,
   instr-at-reads.Learnt,
@@ -692,7 +693,7 @@ interp-region-returns : (t : ℕ) → interp-region-lts.Need-returns (
 ) (interp-region-at t) interp-region.Post interp-region-Inv-loop interp-region-μ-loop
 interp-region-returns t c = (Cycle.walking-refused (c .before .before .before .before .before .before .before .before .before .before .before .before .before .before .before .before .before .args .t .now) (c .before .before .before .before .before .before .before .before .before .before .before .before .before .before .before .before .before .args .heights .now) (c .before .before .before .before .before .before .before .before .before .before .before .before .before .before .before .before .before .args .blinds .now) (c .before .before .before .before .before .before .before .before .before .before .before .before .before .before .before .before .before .args .x) (c .before .before .before .before .before .before .before .before .before .before .before .before .before .before .before .before .before .args .start) (c .before .before .before .before .before .before .before .before .before .before .before .before .before .before .before .before .before .args .end) (c .before .before .before .before .before .before .before .before .before .before .before .before .before .before .before .before .before .args .floor) (c .before .before .before .before .before .before .before .before .before .before .before .before .before .before .before .before .before .args .s0) (c .before .before .before .before .before .before .before .before .before .before .before .before .before .before .before .before .before .args .b0) (c .before .before .before .before .before .before .before .before .before .before .before .before .before .loop .heights) (c .before .before .before .before .before .before .before .before .before .before .before .before .before .loop .blinds) (c .before .before .before .before .before .before .before .before .before .before .before .before .before .loop .ip) (c .before .before .before .before .before .before .before .before .before .before .before .before .before .loop .s) (c .before .before .before .before .before .before .before .before .before .before .before .before .before .loop .b) (c .before .before .before .before .before .before .before .before .before .before .before .before .before .loop .inv) (c .before .before .before .before .before .before .before .before .before .before .before .before .loop-test .taken) (c .before .before .before .before .before .before .before .before .before .before .before .instr-at .result .code) (c .before .before .before .before .before .before .before .before .before .before .before .instr-at .result .a) (Codes.leads-here (c .before .before .before .before .before .before .before .before .before .before .before .before .before .before .before .before .before .args .t .now) (c .before .before .before .before .before .before .before .before .before .before .before .before .before .before .before .before .before .args .x .chunk) (c .before .before .before .before .before .before .before .before .before .before .before .before .before .before .before .before .before .args .x .first) (c .before .before .before .before .before .before .before .before .before .before .before .before .before .before .before .before .before .args .x .count) (c .before .before .before .before .before .before .before .before .before .before .before .before .before .loop .ip) (c .before .before .before .before .before .before .before .before .before .before .before .before .before .before .before .before .before .pre .1 .placed .of .first) (c .before .before .before .before .before .before .before .before .before .before .before .before .before .before .before .before .before .pre .1 .placed .of .count) (c .before .before .before .before .before .before .before .before .before .before .before .instr-at .result) (c .before .before .before .before .before .before .before .before .before .before .before .instr-at .ensures)) (sym (c .before .before .before .before .before .before .before .before .before .before .is-straight .ensures) ∙ c .before .before .before .before .before .before .before .before .before .if1 .taken) (c .before .before .before .before .before .before .examine-at .result) (c .before .before .before .before .before .before .examine-at .ensures .0) (sym (c .before .passed .ensures) ∙ c .if2 .left) _ _ refl, ((c .before .before .before .before .before .before .before .before .before .before .before .before .before .loop .inv) .ready .height-low, (c .before .before .before .before .before .before .before .before .before .before .before .before .before .loop .inv) .ready .breaks-low))
 
--- src/lib.rt:517:13
+-- src/lib.rt:543:13
 interp-region-add-ip : (t : ℕ) → interp-region-lts.Need-add-ip (
   instr-at-reads.Asked,
   instr-at-reads.Learnt,
@@ -707,7 +708,7 @@ interp-region-add-ip : (t : ℕ) → interp-region-lts.Need-add-ip (
 ) (interp-region-at t) interp-region.Post interp-region-Inv-loop interp-region-μ-loop
 interp-region-add-ip t c = omega (arith, (c .before .before .before .before .before .before .before .before .before .before .before .before .before .loop-test .taken), c .before .before .before .before .before .before .before .before .before .before .before .before .before .before .before .before .before .before .fits)
 
--- src/lib.rt:502:5
+-- src/lib.rt:528:5
 interp-region-loop-less : (t : ℕ) → interp-region-lts.Need-loop-less (
   instr-at-reads.Asked,
   instr-at-reads.Learnt,
@@ -722,7 +723,7 @@ interp-region-loop-less : (t : ℕ) → interp-region-lts.Need-loop-less (
 ) (interp-region-at t) interp-region.Post interp-region-Inv-loop interp-region-μ-loop
 interp-region-loop-less t c = omega (arith, (c .before .before .before .before .before .before .before .before .before .before .before .before .before .loop-test .taken))
 
--- src/lib.rt:502:5
+-- src/lib.rt:528:5
 interp-region-loop-again : (t : ℕ) → interp-region-lts.Need-loop-again (
   instr-at-reads.Asked,
   instr-at-reads.Learnt,
@@ -737,7 +738,7 @@ interp-region-loop-again : (t : ℕ) → interp-region-lts.Need-loop-again (
 ) (interp-region-at t) interp-region.Post interp-region-Inv-loop interp-region-μ-loop
 interp-region-loop-again t c = Cycle.walking-on (c .before .before .before .before .before .before .before .before .before .before .before .before .before .before .before .before .before .before .args .t .now) (c .before .before .before .before .before .before .before .before .before .before .before .before .before .before .before .before .before .before .args .heights .now) (c .before .before .before .before .before .before .before .before .before .before .before .before .before .before .before .before .before .before .args .blinds .now) (c .before .before .before .before .before .before .before .before .before .before .before .before .before .before .before .before .before .before .args .x) (c .before .before .before .before .before .before .before .before .before .before .before .before .before .before .before .before .before .before .args .start) (c .before .before .before .before .before .before .before .before .before .before .before .before .before .before .before .before .before .before .args .end) (c .before .before .before .before .before .before .before .before .before .before .before .before .before .before .before .before .before .before .args .floor) (c .before .before .before .before .before .before .before .before .before .before .before .before .before .before .before .before .before .before .args .s0) (c .before .before .before .before .before .before .before .before .before .before .before .before .before .before .before .before .before .before .args .b0) (c .before .before .before .before .before .before .before .before .before .before .before .before .before .before .loop .heights) (c .before .before .before .before .before .before .before .before .before .before .before .before .before .before .loop .blinds) (c .before .before .before .before .before .before .before .before .before .before .before .before .before .before .loop .ip) (c .before .before .before .before .before .before .before .before .before .before .before .before .before .before .loop .s) (c .before .before .before .before .before .before .before .before .before .before .before .before .before .before .loop .b) (c .before .before .before .before .before .before .before .before .before .before .before .before .before .before .loop .inv) (c .before .before .before .before .before .before .before .before .before .before .before .before .before .loop-test .taken) (c .before .before .before .before .before .before .before .before .before .before .before .before .instr-at .result .code) (c .before .before .before .before .before .before .before .before .before .before .before .before .instr-at .result .a) (Codes.leads-here (c .before .before .before .before .before .before .before .before .before .before .before .before .before .before .before .before .before .before .args .t .now) (c .before .before .before .before .before .before .before .before .before .before .before .before .before .before .before .before .before .before .args .x .chunk) (c .before .before .before .before .before .before .before .before .before .before .before .before .before .before .before .before .before .before .args .x .first) (c .before .before .before .before .before .before .before .before .before .before .before .before .before .before .before .before .before .before .args .x .count) (c .before .before .before .before .before .before .before .before .before .before .before .before .before .before .loop .ip) (c .before .before .before .before .before .before .before .before .before .before .before .before .before .before .before .before .before .before .pre .1 .placed .of .first) (c .before .before .before .before .before .before .before .before .before .before .before .before .before .before .before .before .before .before .pre .1 .placed .of .count) (c .before .before .before .before .before .before .before .before .before .before .before .before .instr-at .result) (c .before .before .before .before .before .before .before .before .before .before .before .before .instr-at .ensures)) (sym (c .before .before .before .before .before .before .before .before .before .before .before .is-straight .ensures) ∙ c .before .before .before .before .before .before .before .before .before .before .if1 .taken) (c .before .before .before .before .before .before .before .examine-at .result) (c .before .before .before .before .before .before .before .examine-at .ensures .0) (sym (c .before .before .passed .ensures) ∙ c .before .if2 .taken) _ _ (c .before .before .before .before .before .before .before .examine-at .kept .1 .0) (c .before .before .before .before .before .before .before .examine-at .kept .1 .1 .0) (c .before .before .before .before .before .before .before .examine-at .ensures .1)
 
--- src/lib.rt:525:17
+-- src/lib.rt:551:17
 interp-region-cast-block-at : (t : ℕ) → interp-region-lts.Need-cast-block-at (
   instr-at-reads.Asked,
   instr-at-reads.Learnt,
@@ -752,7 +753,7 @@ interp-region-cast-block-at : (t : ℕ) → interp-region-lts.Need-cast-block-at
 ) (interp-region-at t) interp-region.Post interp-region-Inv-loop interp-region-μ-loop
 interp-region-cast-block-at t c = search needs
 
--- src/lib.rt:519:17
+-- src/lib.rt:545:17
 interp-region-block-at-requires : (t : ℕ) → interp-region-lts.Need-block-at-requires (
   instr-at-reads.Asked,
   instr-at-reads.Learnt,
@@ -781,7 +782,7 @@ interp-region-enum-told : (t : ℕ) → interp-region-lts.Need-enum-told (
 ) (interp-region-at t) interp-region.Post interp-region-Inv-loop interp-region-μ-loop
 interp-region-enum-told t c = search needs
 
--- src/lib.rt:537:21
+-- src/lib.rt:563:21
 interp-region-enum-told-2 : (t : ℕ) → interp-region-lts.Need-enum-told-2 (
   instr-at-reads.Asked,
   instr-at-reads.Learnt,
@@ -796,7 +797,7 @@ interp-region-enum-told-2 : (t : ℕ) → interp-region-lts.Need-enum-told-2 (
 ) (interp-region-at t) interp-region.Post interp-region-Inv-loop interp-region-μ-loop
 interp-region-enum-told-2 t c = search needs
 
--- src/lib.rt:537:21
+-- src/lib.rt:563:21
 interp-region-same-length-3 : (t : ℕ) → interp-region-lts.Need-same-length-3 (
   instr-at-reads.Asked,
   instr-at-reads.Learnt,
@@ -811,7 +812,7 @@ interp-region-same-length-3 : (t : ℕ) → interp-region-lts.Need-same-length-3
 ) (interp-region-at t) interp-region.Post interp-region-Inv-loop interp-region-μ-loop
 interp-region-same-length-3 t c = search needs
 
--- src/lib.rt:537:21
+-- src/lib.rt:563:21
 interp-region-same-length-4 : (t : ℕ) → interp-region-lts.Need-same-length-4 (
   instr-at-reads.Asked,
   instr-at-reads.Learnt,
@@ -826,7 +827,7 @@ interp-region-same-length-4 : (t : ℕ) → interp-region-lts.Need-same-length-4
 ) (interp-region-at t) interp-region.Post interp-region-Inv-loop interp-region-μ-loop
 interp-region-same-length-4 t c = search needs
 
--- src/lib.rt:537:21
+-- src/lib.rt:563:21
 interp-region-returns-2 : (t : ℕ) → interp-region-lts.Need-returns-2 (
   instr-at-reads.Asked,
   instr-at-reads.Learnt,
@@ -841,7 +842,7 @@ interp-region-returns-2 : (t : ℕ) → interp-region-lts.Need-returns-2 (
 ) (interp-region-at t) interp-region.Post interp-region-Inv-loop interp-region-μ-loop
 interp-region-returns-2 t c = (Cycle.walking-ended (c .before .before .before .before .before .before .before .before .before .before .before .before .before .before .before .before .before .before .args .t .now) (c .before .before .before .before .before .before .before .before .before .before .before .before .before .before .before .before .before .before .args .heights .now) (c .before .before .before .before .before .before .before .before .before .before .before .before .before .before .before .before .before .before .args .blinds .now) (c .before .before .before .before .before .before .before .before .before .before .before .before .before .before .before .before .before .before .args .x) (c .before .before .before .before .before .before .before .before .before .before .before .before .before .before .before .before .before .before .args .start) (c .before .before .before .before .before .before .before .before .before .before .before .before .before .before .before .before .before .before .args .end) (c .before .before .before .before .before .before .before .before .before .before .before .before .before .before .before .before .before .before .args .floor) (c .before .before .before .before .before .before .before .before .before .before .before .before .before .before .before .before .before .before .args .s0) (c .before .before .before .before .before .before .before .before .before .before .before .before .before .before .before .before .before .before .args .b0) (c .before .before .before .before .before .before .before .before .before .before .before .before .before .before .loop .heights) (c .before .before .before .before .before .before .before .before .before .before .before .before .before .before .loop .blinds) (c .before .before .before .before .before .before .before .before .before .before .before .before .before .before .loop .ip) (c .before .before .before .before .before .before .before .before .before .before .before .before .before .before .loop .s) (c .before .before .before .before .before .before .before .before .before .before .before .before .before .before .loop .b) (c .before .before .before .before .before .before .before .before .before .before .before .before .before .before .loop .inv) (c .before .before .before .before .before .before .before .before .before .before .before .before .before .loop-test .taken) (c .before .before .before .before .before .before .before .before .before .before .before .before .instr-at .result .code) (c .before .before .before .before .before .before .before .before .before .before .before .before .instr-at .result .a) (Codes.leads-here (c .before .before .before .before .before .before .before .before .before .before .before .before .before .before .before .before .before .before .args .t .now) (c .before .before .before .before .before .before .before .before .before .before .before .before .before .before .before .before .before .before .args .x .chunk) (c .before .before .before .before .before .before .before .before .before .before .before .before .before .before .before .before .before .before .args .x .first) (c .before .before .before .before .before .before .before .before .before .before .before .before .before .before .before .before .before .before .args .x .count) (c .before .before .before .before .before .before .before .before .before .before .before .before .before .before .loop .ip) (c .before .before .before .before .before .before .before .before .before .before .before .before .before .before .before .before .before .before .pre .1 .placed .of .first) (c .before .before .before .before .before .before .before .before .before .before .before .before .before .before .before .before .before .before .pre .1 .placed .of .count) (c .before .before .before .before .before .before .before .before .before .before .before .before .instr-at .result) (c .before .before .before .before .before .before .before .before .before .before .before .before .instr-at .ensures)) (c .before .before .before .before .before .before .before .block-at .result) _ _ (c .before .before .before .before .before .before .before .block-at .ensures .0) (c .enum-told2 .given .1), c .before .before .before .before .before .before .before .block-at .ensures .1 .2)
 
--- src/lib.rt:540:21
+-- src/lib.rt:566:21
 interp-region-enum-told-3 : (t : ℕ) → interp-region-lts.Need-enum-told-3 (
   instr-at-reads.Asked,
   instr-at-reads.Learnt,
@@ -856,7 +857,7 @@ interp-region-enum-told-3 : (t : ℕ) → interp-region-lts.Need-enum-told-3 (
 ) (interp-region-at t) interp-region.Post interp-region-Inv-loop interp-region-μ-loop
 interp-region-enum-told-3 t c = search needs
 
--- src/lib.rt:540:21
+-- src/lib.rt:566:21
 interp-region-same-length-5 : (t : ℕ) → interp-region-lts.Need-same-length-5 (
   instr-at-reads.Asked,
   instr-at-reads.Learnt,
@@ -871,7 +872,7 @@ interp-region-same-length-5 : (t : ℕ) → interp-region-lts.Need-same-length-5
 ) (interp-region-at t) interp-region.Post interp-region-Inv-loop interp-region-μ-loop
 interp-region-same-length-5 t c = search needs
 
--- src/lib.rt:540:21
+-- src/lib.rt:566:21
 interp-region-same-length-6 : (t : ℕ) → interp-region-lts.Need-same-length-6 (
   instr-at-reads.Asked,
   instr-at-reads.Learnt,
@@ -886,7 +887,7 @@ interp-region-same-length-6 : (t : ℕ) → interp-region-lts.Need-same-length-6
 ) (interp-region-at t) interp-region.Post interp-region-Inv-loop interp-region-μ-loop
 interp-region-same-length-6 t c = search needs
 
--- src/lib.rt:540:21
+-- src/lib.rt:566:21
 interp-region-returns-3 : (t : ℕ) → interp-region-lts.Need-returns-3 (
   instr-at-reads.Asked,
   instr-at-reads.Learnt,
@@ -901,7 +902,7 @@ interp-region-returns-3 : (t : ℕ) → interp-region-lts.Need-returns-3 (
 ) (interp-region-at t) interp-region.Post interp-region-Inv-loop interp-region-μ-loop
 interp-region-returns-3 t c = (Cycle.walking-stopped (c .before .before .before .before .before .before .before .before .before .before .before .before .before .before .before .before .before .before .args .t .now) (c .before .before .before .before .before .before .before .before .before .before .before .before .before .before .before .before .before .before .args .heights .now) (c .before .before .before .before .before .before .before .before .before .before .before .before .before .before .before .before .before .before .args .blinds .now) (c .before .before .before .before .before .before .before .before .before .before .before .before .before .before .before .before .before .before .args .x) (c .before .before .before .before .before .before .before .before .before .before .before .before .before .before .before .before .before .before .args .start) (c .before .before .before .before .before .before .before .before .before .before .before .before .before .before .before .before .before .before .args .end) (c .before .before .before .before .before .before .before .before .before .before .before .before .before .before .before .before .before .before .args .floor) (c .before .before .before .before .before .before .before .before .before .before .before .before .before .before .before .before .before .before .args .s0) (c .before .before .before .before .before .before .before .before .before .before .before .before .before .before .before .before .before .before .args .b0) (c .before .before .before .before .before .before .before .before .before .before .before .before .before .before .loop .heights) (c .before .before .before .before .before .before .before .before .before .before .before .before .before .before .loop .blinds) (c .before .before .before .before .before .before .before .before .before .before .before .before .before .before .loop .ip) (c .before .before .before .before .before .before .before .before .before .before .before .before .before .before .loop .s) (c .before .before .before .before .before .before .before .before .before .before .before .before .before .before .loop .b) (c .before .before .before .before .before .before .before .before .before .before .before .before .before .before .loop .inv) (c .before .before .before .before .before .before .before .before .before .before .before .before .before .loop-test .taken) (c .before .before .before .before .before .before .before .before .before .before .before .before .instr-at .result .code) (c .before .before .before .before .before .before .before .before .before .before .before .before .instr-at .result .a) (Codes.leads-here (c .before .before .before .before .before .before .before .before .before .before .before .before .before .before .before .before .before .before .args .t .now) (c .before .before .before .before .before .before .before .before .before .before .before .before .before .before .before .before .before .before .args .x .chunk) (c .before .before .before .before .before .before .before .before .before .before .before .before .before .before .before .before .before .before .args .x .first) (c .before .before .before .before .before .before .before .before .before .before .before .before .before .before .before .before .before .before .args .x .count) (c .before .before .before .before .before .before .before .before .before .before .before .before .before .before .loop .ip) (c .before .before .before .before .before .before .before .before .before .before .before .before .before .before .before .before .before .before .pre .1 .placed .of .first) (c .before .before .before .before .before .before .before .before .before .before .before .before .before .before .before .before .before .before .pre .1 .placed .of .count) (c .before .before .before .before .before .before .before .before .before .before .before .before .instr-at .result) (c .before .before .before .before .before .before .before .before .before .before .before .before .instr-at .ensures)) (c .before .before .before .before .before .before .before .block-at .result) _ _ (c .before .before .before .before .before .before .before .block-at .ensures .0) (c .enum-told3 .given .1), c .before .before .before .before .before .before .before .block-at .ensures .1 .2)
 
--- src/lib.rt:502:5
+-- src/lib.rt:528:5
 interp-region-loop-less-2 : (t : ℕ) → interp-region-lts.Need-loop-less-2 (
   instr-at-reads.Asked,
   instr-at-reads.Learnt,
@@ -916,7 +917,7 @@ interp-region-loop-less-2 : (t : ℕ) → interp-region-lts.Need-loop-less-2 (
 ) (interp-region-at t) interp-region.Post interp-region-Inv-loop interp-region-μ-loop
 interp-region-loop-less-2 t c = omega (arith, (c .before .before .before .before .before .before .before .before .before .before .before .before .before .before .before .loop-test .taken), c .before .before .before .before .before .before .before .before .before .block-at .ensures .1 .0)
 
--- src/lib.rt:502:5
+-- src/lib.rt:528:5
 interp-region-loop-again-2 : (t : ℕ) → interp-region-lts.Need-loop-again-2 (
   instr-at-reads.Asked,
   instr-at-reads.Learnt,
@@ -931,7 +932,7 @@ interp-region-loop-again-2 : (t : ℕ) → interp-region-lts.Need-loop-again-2 (
 ) (interp-region-at t) interp-region.Post interp-region-Inv-loop interp-region-μ-loop
 interp-region-loop-again-2 t c = Cycle.walking-past (c .before .before .before .before .before .before .before .before .before .before .before .before .before .before .before .before .before .before .before .before .args .t .now) (c .before .before .before .before .before .before .before .before .before .before .before .before .before .before .before .before .before .before .before .before .args .heights .now) (c .before .before .before .before .before .before .before .before .before .before .before .before .before .before .before .before .before .before .before .before .args .blinds .now) (c .before .before .before .before .before .before .before .before .before .before .before .before .before .before .before .before .before .before .before .before .args .x) (c .before .before .before .before .before .before .before .before .before .before .before .before .before .before .before .before .before .before .before .before .args .start) (c .before .before .before .before .before .before .before .before .before .before .before .before .before .before .before .before .before .before .before .before .args .end) (c .before .before .before .before .before .before .before .before .before .before .before .before .before .before .before .before .before .before .before .before .args .floor) (c .before .before .before .before .before .before .before .before .before .before .before .before .before .before .before .before .before .before .before .before .args .s0) (c .before .before .before .before .before .before .before .before .before .before .before .before .before .before .before .before .before .before .before .before .args .b0) (c .before .before .before .before .before .before .before .before .before .before .before .before .before .before .before .before .loop .heights) (c .before .before .before .before .before .before .before .before .before .before .before .before .before .before .before .before .loop .blinds) (c .before .before .before .before .before .before .before .before .before .before .before .before .before .before .before .before .loop .ip) (c .before .before .before .before .before .before .before .before .before .before .before .before .before .before .before .before .loop .s) (c .before .before .before .before .before .before .before .before .before .before .before .before .before .before .before .before .loop .b) (c .before .before .before .before .before .before .before .before .before .before .before .before .before .before .before .before .loop .inv) (c .before .before .before .before .before .before .before .before .before .before .before .before .before .before .before .loop-test .taken) (c .before .before .before .before .before .before .before .before .before .before .before .before .before .before .instr-at .result .code) (c .before .before .before .before .before .before .before .before .before .before .before .before .before .before .instr-at .result .a) (Codes.leads-here (c .before .before .before .before .before .before .before .before .before .before .before .before .before .before .before .before .before .before .before .before .args .t .now) (c .before .before .before .before .before .before .before .before .before .before .before .before .before .before .before .before .before .before .before .before .args .x .chunk) (c .before .before .before .before .before .before .before .before .before .before .before .before .before .before .before .before .before .before .before .before .args .x .first) (c .before .before .before .before .before .before .before .before .before .before .before .before .before .before .before .before .before .before .before .before .args .x .count) (c .before .before .before .before .before .before .before .before .before .before .before .before .before .before .before .before .loop .ip) (c .before .before .before .before .before .before .before .before .before .before .before .before .before .before .before .before .before .before .before .before .pre .1 .placed .of .first) (c .before .before .before .before .before .before .before .before .before .before .before .before .before .before .before .before .before .before .before .before .pre .1 .placed .of .count) (c .before .before .before .before .before .before .before .before .before .before .before .before .before .before .instr-at .result) (c .before .before .before .before .before .before .before .before .before .before .before .before .before .before .instr-at .ensures)) (c .before .before .before .before .before .before .before .before .before .block-at .result) _ _ (c .before .before .before .before .before .before .before .before .before .block-at .ensures .0) (c .before .before .enum-told .given .1) (c .before .before .before .before .before .before .before .before .before .block-at .kept .1 .0) (c .before .before .before .before .before .before .before .before .before .block-at .kept .1 .1 .0) (c .before .before .before .before .before .before .before .before .before .block-at .ensures .1 .0) (c .before .before .before .before .before .before .before .before .before .block-at .ensures .1 .1) (c .before .before .before .before .before .before .before .before .before .block-at .ensures .1 .2 .0) (c .before .before .before .before .before .before .before .before .before .block-at .ensures .1 .2 .1)
 
--- src/lib.rt:484:1
+-- src/lib.rt:510:1
 interp-region-same-length-7 : (t : ℕ) → interp-region-lts.Need-same-length-7 (
   instr-at-reads.Asked,
   instr-at-reads.Learnt,
@@ -946,7 +947,7 @@ interp-region-same-length-7 : (t : ℕ) → interp-region-lts.Need-same-length-7
 ) (interp-region-at t) interp-region.Post interp-region-Inv-loop interp-region-μ-loop
 interp-region-same-length-7 t c = search needs
 
--- src/lib.rt:484:1
+-- src/lib.rt:510:1
 interp-region-same-length-8 : (t : ℕ) → interp-region-lts.Need-same-length-8 (
   instr-at-reads.Asked,
   instr-at-reads.Learnt,
@@ -961,7 +962,7 @@ interp-region-same-length-8 : (t : ℕ) → interp-region-lts.Need-same-length-8
 ) (interp-region-at t) interp-region.Post interp-region-Inv-loop interp-region-μ-loop
 interp-region-same-length-8 t c = search needs
 
--- src/lib.rt:484:1
+-- src/lib.rt:510:1
 interp-region-returns-4 : (t : ℕ) → interp-region-lts.Need-returns-4 (
   instr-at-reads.Asked,
   instr-at-reads.Learnt,
@@ -976,7 +977,7 @@ interp-region-returns-4 : (t : ℕ) → interp-region-lts.Need-returns-4 (
 ) (interp-region-at t) interp-region.Post interp-region-Inv-loop interp-region-μ-loop
 interp-region-returns-4 t c = (Cycle.walking-end (c .before .before .before .before .before .args .t .now) (c .before .before .before .before .before .args .heights .now) (c .before .before .before .before .before .args .blinds .now) (c .before .before .before .before .before .args .x) (c .before .before .before .before .before .args .start) (c .before .before .before .before .before .args .end) (c .before .before .before .before .before .args .floor) (c .before .before .before .before .before .args .s0) (c .before .before .before .before .before .args .b0) (c .before .loop .heights) (c .before .loop .blinds) (c .before .loop .ip) (c .before .loop .s) (c .before .loop .b) (c .before .loop .inv) (omega (arith, c .loop-test .left)), ((c .before .loop .inv) .ready .height-low, (c .before .loop .inv) .ready .breaks-low))
 
--- src/lib.rt:829:16
+-- src/lib.rt:836:16
 last-pass-add-body : (t : ℕ) → last-pass-lts.Need-add-body (
   invalidate-written-locals-reads.Asked,
   invalidate-written-locals-reads.Learnt,
@@ -987,7 +988,7 @@ last-pass-add-body : (t : ℕ) → last-pass-lts.Need-add-body (
 ) (last-pass-at t) last-pass.Post
 last-pass-add-body t c = omega (arith, c .before .before .before .pre .1 .1 .0, c .before .before .before .pre .1 .1 .1, c .before .before .before .fits)
 
--- src/lib.rt:830:16
+-- src/lib.rt:837:16
 last-pass-sub-last : (t : ℕ) → last-pass-lts.Need-sub-last (
   invalidate-written-locals-reads.Asked,
   invalidate-written-locals-reads.Learnt,
@@ -998,7 +999,7 @@ last-pass-sub-last : (t : ℕ) → last-pass-lts.Need-sub-last (
 ) (last-pass-at t) last-pass.Post
 last-pass-sub-last t c = omega (arith, c .before .before .before .pre .1 .1 .0)
 
--- src/lib.rt:831:9
+-- src/lib.rt:838:9
 last-pass-invalidate-written-locals-requires :
     (t : ℕ) → last-pass-lts.Need-invalidate-written-locals-requires (
       invalidate-written-locals-reads.Asked,
@@ -1010,7 +1011,7 @@ last-pass-invalidate-written-locals-requires :
     ) (last-pass-at t) last-pass.Post
 last-pass-invalidate-written-locals-requires t c κs = (c .before .before .before .pre .1 .0 .of .first, c .before .before .before .pre .1 .0 .of .count, c .before .before .before .pre .1 .0 .of .within, omega (arith, c .before .before .before .pre .1 .1 .0, c .before .before .before .pre .1 .1 .1), omega (arith, c .before .before .before .pre .1 .0 .of .locals, locals-low (c .before .before .before .args .t .now) (c .before .before .before .args .x .chunk)), c .before .before .before .pre .1 .1 .3)
 
--- src/lib.rt:836:9
+-- src/lib.rt:843:9
 last-pass-interp-region-requires : (t : ℕ) → last-pass-lts.Need-interp-region-requires (
   invalidate-written-locals-reads.Asked,
   invalidate-written-locals-reads.Learnt,
@@ -1021,7 +1022,7 @@ last-pass-interp-region-requires : (t : ℕ) → last-pass-lts.Need-interp-regio
 ) (last-pass-at t) last-pass.Post
 last-pass-interp-region-requires t c κs = (omega (arith, c .before .before .before .before .before .before .pre .0, c .before .before .before .before .before .before .pre .1 .1 .0), record { placed = c .before .before .before .before .before .before .pre .1 .0; from = c .before .before .before .before .before .before .args .ip + 1; arm = Cycle.loop-arm-in (c .before .before .before .before .before .before .args .t .now) (c .before .before .before .before .before .before .args .x) (c .before .before .before .before .before .before .args .ip) (c .before .before .before .before .before .before .args .exit) (c .before .before .before .before .before .before .pre .1 .0 .of .first) (c .before .before .before .before .before .before .pre .1 .0 .of .count) (omega (arith, c .before .before .before .before .before .before .pre .1 .1 .0, c .before .before .before .before .before .before .pre .1 .1 .1)) (c .before .before .before .before .before .before .pre .1 .1 .4); after = omega arith; before = omega (arith, c .before .before .before .before .before .before .pre .1 .1 .0); floor-low = c .before .before .before .before .before .before .pre .1 .1 .2; height-low = omega (arith, c .before .before .invalidate-written-locals .ensures .0, c .before .before .before .before .before .before .pre .1 .1 .3); breaks-low = omega (arith, c .before .before .invalidate-written-locals .ensures .0, c .before .before .before .before .before .before .pre .1 .1 .3) })
 
--- src/lib.rt:837:5
+-- src/lib.rt:844:5
 last-pass-last-end-requires : (t : ℕ) → last-pass-lts.Need-last-end-requires (
   invalidate-written-locals-reads.Asked,
   invalidate-written-locals-reads.Learnt,
@@ -1032,7 +1033,7 @@ last-pass-last-end-requires : (t : ℕ) → last-pass-lts.Need-last-end-requires
 ) (last-pass-at t) last-pass.Post
 last-pass-last-end-requires t c κs = (c .before .before .before .before .interp-region .ensures .1, omega (arith, c .before .before .before .before .before .before .before .invalidate-written-locals .ensures .0, c .before .before .before .before .before .before .before .before .before .before .before .pre .1 .1 .3), omega (arith, c .before .before .before .before .before .before .before .before .before .before .before .pre .1 .0 .of .locals, locals-low (c .before .before .before .before .before .before .before .before .before .before .before .args .t .now) (c .before .before .before .before .before .before .before .before .before .before .before .args .x .chunk)))
 
--- src/lib.rt:814:1
+-- src/lib.rt:821:1
 last-pass-same-length : (t : ℕ) → last-pass-lts.Need-same-length (
   invalidate-written-locals-reads.Asked,
   invalidate-written-locals-reads.Learnt,
@@ -1043,7 +1044,7 @@ last-pass-same-length : (t : ℕ) → last-pass-lts.Need-same-length (
 ) (last-pass-at t) last-pass.Post
 last-pass-same-length t c = search needs
 
--- src/lib.rt:814:1
+-- src/lib.rt:821:1
 last-pass-same-length-2 : (t : ℕ) → last-pass-lts.Need-same-length-2 (
   invalidate-written-locals-reads.Asked,
   invalidate-written-locals-reads.Learnt,
@@ -1054,7 +1055,7 @@ last-pass-same-length-2 : (t : ℕ) → last-pass-lts.Need-same-length-2 (
 ) (last-pass-at t) last-pass.Post
 last-pass-same-length-2 t c = search needs
 
--- src/lib.rt:814:1
+-- src/lib.rt:821:1
 last-pass-returns : (t : ℕ) → last-pass-lts.Need-returns (
   invalidate-written-locals-reads.Asked,
   invalidate-written-locals-reads.Learnt,
@@ -1065,108 +1066,84 @@ last-pass-returns : (t : ℕ) → last-pass-lts.Need-returns (
 ) (last-pass-at t) last-pass.Post
 last-pass-returns t c = (Cycle.last-made (c .before .before .before .before .before .before .before .before .before .before .before .before .args .t .now) (c .before .before .before .before .before .before .before .before .before .before .before .before .args .x) (c .before .before .before .before .before .before .before .before .before .before .before .before .args .ip) (c .before .before .before .before .before .before .before .before .before .before .before .before .args .exit) (c .before .before .before .before .before .before .before .before .before .before .before .before .args .floor) (c .before .before .before .before .before .before .before .before .before .before .before .before .args .head) (c .before .before .before .before .before .before .before .before .invalidate-written-locals .result) (c .before .before .before .before .before .before .before .before .invalidate-written-locals .ensures .1) _ refl (c .before .before .before .before .before .interp-region .result) _ _ (c .before .before .before .before .before .interp-region .ensures .0) (c .last-end .result) (c .last-end .ensures .0 _), c .last-end .ensures .1)
 
--- src/lib.rt:733:26
+-- src/lib.rt:759:26
 loop-at-add-mark-height : (t : ℕ) → loop-at-lts.Need-add-mark-height (
   mark-height-reads.Asked,
   mark-height-reads.Learnt,
   passes-at-below t,
   passes-at.Post,
+  onward-after-reads.Asked,
+  onward-after-reads.Learnt,
 ) (loop-at-at t) loop-at.Post
 loop-at-add-mark-height t c = omega (arith, Cycle.inside (c .before .before .before .before .args .t .now) (c .before .before .before .before .args .heights .now) (c .before .before .before .before .args .blinds .now) (c .before .before .before .before .args .x) (c .before .before .before .before .args .ip) (c .before .before .before .before .args .end) (c .before .before .before .before .args .floor) _ _ (c .before .before .before .before .pre .1 .0) (c .before .before .before .before .pre .1 .1 .0), c .before .before .before .before .pre .1 .0 .placed .of .within)
 
--- src/lib.rt:733:5
+-- src/lib.rt:759:5
 loop-at-mark-height-requires : (t : ℕ) → loop-at-lts.Need-mark-height-requires (
   mark-height-reads.Asked,
   mark-height-reads.Learnt,
   passes-at-below t,
   passes-at.Post,
+  onward-after-reads.Asked,
+  onward-after-reads.Learnt,
 ) (loop-at-at t) loop-at.Post
 loop-at-mark-height-requires t c κs = (omega (arith, Cycle.inside (c .before .before .before .before .args .t .now) (c .before .before .before .before .args .heights .now) (c .before .before .before .before .args .blinds .now) (c .before .before .before .before .args .x) (c .before .before .before .before .args .ip) (c .before .before .before .before .args .end) (c .before .before .before .before .args .floor) _ _ (c .before .before .before .before .pre .1 .0) (c .before .before .before .before .pre .1 .1 .0), c .before .before .before .before .pre .1 .0 .placed .heights-long), c .before .before .before .before .pre .1 .0 .height-low)
 
--- src/lib.rt:734:9
+-- src/lib.rt:760:9
 loop-at-passes-at-requires : (t : ℕ) → loop-at-lts.Need-passes-at-requires (
   mark-height-reads.Asked,
   mark-height-reads.Learnt,
   passes-at-below t,
   passes-at.Post,
+  onward-after-reads.Asked,
+  onward-after-reads.Learnt,
 ) (loop-at-at t) loop-at.Post
 loop-at-passes-at-requires t c κs = let q = Cycle.loop-in (c .before .before .before .before .before .before .before .before .before .args .t .now) (c .before .before .before .before .before .before .before .before .before .args .heights .now) (c .before .before .before .before .before .before .before .before .before .args .blinds .now) (c .before .before .before .before .before .before .before .before .before .args .x) (c .before .before .before .before .before .before .before .before .before .args .target) (c .before .before .before .before .before .before .before .before .before .args .ip) (c .before .before .before .before .before .before .before .before .before .args .end) (c .before .before .before .before .before .before .before .before .before .args .floor) _ _ (c .before .before .before .before .before .before .before .before .before .pre .1 .0) (c .before .before .before .before .before .before .before .before .before .pre .1 .1 .0) (c .before .before .before .before .before .before .before .before .before .pre .1 .1 .1) in (omega (arith, c .before .before .before .before .before .before .before .before .before .pre .0, q .0, q .1), (Cycle.placed-by (c .before .before .before .before .before .before .before .before .before .args .t .now) (c .before .before .before .before .before .before .before .before .before .args .heights .now) (c .before .before .before .before .before .before .before .before .before .args .blinds .now) _ (c .before .before .before .before .before .before .before .before .before .args .blinds .now) (c .before .before .before .before .before .before .before .before .before .args .x) (c .before .before .before .before .mark-height .kept .0) refl (c .before .before .before .before .before .before .before .before .before .pre .1 .0 .placed), (q .0, omega (arith, q .1, Cycle.arm-in (c .before .before .before .before .before .before .before .before .before .args .t .now) (c .before .before .before .before .before .before .before .before .before .args .x) _ (c .before .before .before .before .before .before .before .before .before .args .end) (c .before .before .before .before .before .before .before .before .before .pre .1 .0 .placed .of .count) (c .before .before .before .before .before .before .before .before .before .pre .1 .0 .placed .of .first) (c .before .before .before .before .before .before .before .before .before .pre .1 .0 .placed .nested) ((c .before .before .before .before .before .before .before .before .before .pre .1 .0) .arm)), c .before .before .before .before .before .before .before .before .before .pre .1 .0 .height-low, (c .before .before .before .before .before .before .before .before .before .pre .1 .1 .1))))
 
--- src/lib.rt:738:26
-loop-at-enum-known-f : (t : ℕ) → loop-at-lts.Need-enum-known-f (
+-- src/lib.rt:761:5
+loop-at-onward-after-requires : (t : ℕ) → loop-at-lts.Need-onward-after-requires (
   mark-height-reads.Asked,
   mark-height-reads.Learnt,
   passes-at-below t,
   passes-at.Post,
+  onward-after-reads.Asked,
+  onward-after-reads.Learnt,
 ) (loop-at-at t) loop-at.Post
-loop-at-enum-known-f t c = search needs
+loop-at-onward-after-requires t c κs = search needs
 
--- src/lib.rt:749:23
-loop-at-enum-told : (t : ℕ) → loop-at-lts.Need-enum-told (
-  mark-height-reads.Asked,
-  mark-height-reads.Learnt,
-  passes-at-below t,
-  passes-at.Post,
-) (loop-at-at t) loop-at.Post
-loop-at-enum-told t c = search needs
-
--- src/lib.rt:715:1
+-- src/lib.rt:741:1
 loop-at-same-length : (t : ℕ) → loop-at-lts.Need-same-length (
   mark-height-reads.Asked,
   mark-height-reads.Learnt,
   passes-at-below t,
   passes-at.Post,
+  onward-after-reads.Asked,
+  onward-after-reads.Learnt,
 ) (loop-at-at t) loop-at.Post
 loop-at-same-length t c = search needs
 
--- src/lib.rt:715:1
+-- src/lib.rt:741:1
 loop-at-same-length-2 : (t : ℕ) → loop-at-lts.Need-same-length-2 (
   mark-height-reads.Asked,
   mark-height-reads.Learnt,
   passes-at-below t,
   passes-at.Post,
+  onward-after-reads.Asked,
+  onward-after-reads.Learnt,
 ) (loop-at-at t) loop-at.Post
 loop-at-same-length-2 t c = search needs
 
--- src/lib.rt:715:1
+-- src/lib.rt:741:1
 loop-at-returns : (t : ℕ) → loop-at-lts.Need-returns (
   mark-height-reads.Asked,
   mark-height-reads.Learnt,
   passes-at-below t,
   passes-at.Post,
+  onward-after-reads.Asked,
+  onward-after-reads.Learnt,
 ) (loop-at-at t) loop-at.Post
-unfolding Outcomes.onwardOf
-loop-at-returns t c = (Cycle.loop-stopped (c .before .before .before .before .before .before .before .before .before .before .before .before .before .before .before .before .before .before .args .t .now) (c .before .before .before .before .before .before .before .before .before .before .before .before .before .before .before .before .before .before .args .x) (c .before .before .before .before .before .before .before .before .before .before .before .before .before .before .before .before .before .before .args .target) (c .before .before .before .before .before .before .before .before .before .before .before .before .before .before .before .before .before .before .args .ip) (c .before .before .before .before .before .before .before .before .before .before .before .before .before .before .before .before .before .before .args .end) (c .before .before .before .before .before .before .before .before .before .before .before .before .before .before .before .before .before .before .args .floor) (c .before .before .before .before .before .before .before .before .before .before .before .before .before .before .before .before .before .before .args .s) (c .before .before .before .before .before .before .before .before .before .before .before .before .before .before .before .before .before .before .args .b) (c .before .before .before .before .before .before .before .before .before .before .before .before .before .before .before .before .before .before .args .heights .now) (c .before .before .before .before .before .before .before .before .before .before .before .before .before .before .before .before .before .before .args .blinds .now) _ (c .before .before .before .before .before .before .before .before .before .before .before .before .before .before .before .before .before .before .pre .1 .0 .placed .of .first) (c .before .before .before .before .before .before .before .before .before .before .before .before .before .before .before .before .before .before .pre .1 .1 .1) (c .before .before .before .before .before .before .before .before .before .before .before .before .before .mark-height .ensures) (c .before .before .before .before .before .before .before .before .passes-at .result) _ (c .before .before .before .before .before .before .before .before .passes-at .ensures .0) (c .before .f .given .1), (let q = Cycle.loop-in (c .before .before .before .before .before .before .before .before .before .before .before .before .before .before .before .before .before .before .args .t .now) (c .before .before .before .before .before .before .before .before .before .before .before .before .before .before .before .before .before .before .args .heights .now) (c .before .before .before .before .before .before .before .before .before .before .before .before .before .before .before .before .before .before .args .blinds .now) (c .before .before .before .before .before .before .before .before .before .before .before .before .before .before .before .before .before .before .args .x) (c .before .before .before .before .before .before .before .before .before .before .before .before .before .before .before .before .before .before .args .target) (c .before .before .before .before .before .before .before .before .before .before .before .before .before .before .before .before .before .before .args .ip) (c .before .before .before .before .before .before .before .before .before .before .before .before .before .before .before .before .before .before .args .end) (c .before .before .before .before .before .before .before .before .before .before .before .before .before .before .before .before .before .before .args .floor) _ _ (c .before .before .before .before .before .before .before .before .before .before .before .before .before .before .before .before .before .before .pre .1 .0) (c .before .before .before .before .before .before .before .before .before .before .before .before .before .before .before .before .before .before .pre .1 .1 .0) (c .before .before .before .before .before .before .before .before .before .before .before .before .before .before .before .before .before .before .pre .1 .1 .1) in (omega (arith, q .0), q .1, (c .before .before .before .before .before .before .before .before .passes-at .ensures .1, c .before .before .before .before .before .before .before .before .before .before .before .before .before .before .before .before .before .before .pre .1 .0 .breaks-low))))
+loop-at-returns t c = (c .onward-after .ensures .3 (Ready.chunkIn (c .before .before .before .before .before .before .before .before .before .before .before .before .before .before .before .args .t .now) (c .before .before .before .before .before .before .before .before .before .before .before .before .before .before .before .args .x)) (c .before .before .before .before .before .before .before .before .before .before .before .before .before .before .before .args .x .locals) (c .before .before .before .before .before .before .before .before .before .before .before .before .before .before .before .args .end) (c .before .before .before .before .before .before .before .before .before .before .before .before .before .before .before .args .floor) _ ∙ Cycle.loop-left (c .before .before .before .before .before .before .before .before .before .before .before .before .before .before .before .args .t .now) (c .before .before .before .before .before .before .before .before .before .before .before .before .before .before .before .args .x) (c .before .before .before .before .before .before .before .before .before .before .before .before .before .before .before .args .target) (c .before .before .before .before .before .before .before .before .before .before .before .before .before .before .before .args .ip) (c .before .before .before .before .before .before .before .before .before .before .before .before .before .before .before .args .end) (c .before .before .before .before .before .before .before .before .before .before .before .before .before .before .before .args .floor) (c .before .before .before .before .before .before .before .before .before .before .before .before .before .before .before .args .s) (c .before .before .before .before .before .before .before .before .before .before .before .before .before .before .before .args .b) (c .before .before .before .before .before .before .before .before .before .before .before .before .before .before .before .args .heights .now) (c .before .before .before .before .before .before .before .before .before .before .before .before .before .before .before .args .blinds .now) _ (c .before .before .before .before .before .before .before .before .before .before .before .before .before .before .before .pre .1 .0 .placed .of .first) (c .before .before .before .before .before .before .before .before .before .before .before .before .before .before .before .pre .1 .1 .1) (c .before .before .before .before .before .before .before .before .before .before .mark-height .ensures) (c .before .before .before .before .before .passes-at .result) _ (c .before .before .before .before .before .passes-at .ensures .0), (let q = Cycle.loop-in (c .before .before .before .before .before .before .before .before .before .before .before .before .before .before .before .args .t .now) (c .before .before .before .before .before .before .before .before .before .before .before .before .before .before .before .args .heights .now) (c .before .before .before .before .before .before .before .before .before .before .before .before .before .before .before .args .blinds .now) (c .before .before .before .before .before .before .before .before .before .before .before .before .before .before .before .args .x) (c .before .before .before .before .before .before .before .before .before .before .before .before .before .before .before .args .target) (c .before .before .before .before .before .before .before .before .before .before .before .before .before .before .before .args .ip) (c .before .before .before .before .before .before .before .before .before .before .before .before .before .before .before .args .end) (c .before .before .before .before .before .before .before .before .before .before .before .before .before .before .before .args .floor) _ _ (c .before .before .before .before .before .before .before .before .before .before .before .before .before .before .before .pre .1 .0) (c .before .before .before .before .before .before .before .before .before .before .before .before .before .before .before .pre .1 .1 .0) (c .before .before .before .before .before .before .before .before .before .before .before .before .before .before .before .pre .1 .1 .1) in (omega (arith, q .0, c .onward-after .ensures .0), omega (arith, q .1, c .onward-after .ensures .0), (omega (arith, c .onward-after .ensures .1, c .before .before .before .before .before .passes-at .ensures .1), omega (arith, c .onward-after .ensures .2, c .before .before .before .before .before .before .before .before .before .before .before .before .before .before .before .pre .1 .0 .breaks-low)))))
 
--- src/lib.rt:715:1
-loop-at-same-length-3 : (t : ℕ) → loop-at-lts.Need-same-length-3 (
-  mark-height-reads.Asked,
-  mark-height-reads.Learnt,
-  passes-at-below t,
-  passes-at.Post,
-) (loop-at-at t) loop-at.Post
-loop-at-same-length-3 t c = search needs
-
--- src/lib.rt:715:1
-loop-at-same-length-4 : (t : ℕ) → loop-at-lts.Need-same-length-4 (
-  mark-height-reads.Asked,
-  mark-height-reads.Learnt,
-  passes-at-below t,
-  passes-at.Post,
-) (loop-at-at t) loop-at.Post
-loop-at-same-length-4 t c = search needs
-
--- src/lib.rt:715:1
-loop-at-returns-2 : (t : ℕ) → loop-at-lts.Need-returns-2 (
-  mark-height-reads.Asked,
-  mark-height-reads.Learnt,
-  passes-at-below t,
-  passes-at.Post,
-) (loop-at-at t) loop-at.Post
-unfolding Outcomes.onwardOf
-loop-at-returns-2 t c = (Cycle.loop-after (c .before .before .before .before .before .before .before .before .before .before .before .before .before .before .before .before .before .args .t .now) (c .before .before .before .before .before .before .before .before .before .before .before .before .before .before .before .before .before .args .x) (c .before .before .before .before .before .before .before .before .before .before .before .before .before .before .before .before .before .args .target) (c .before .before .before .before .before .before .before .before .before .before .before .before .before .before .before .before .before .args .ip) (c .before .before .before .before .before .before .before .before .before .before .before .before .before .before .before .before .before .args .end) (c .before .before .before .before .before .before .before .before .before .before .before .before .before .before .before .before .before .args .floor) (c .before .before .before .before .before .before .before .before .before .before .before .before .before .before .before .before .before .args .s) (c .before .before .before .before .before .before .before .before .before .before .before .before .before .before .before .before .before .args .b) (c .before .before .before .before .before .before .before .before .before .before .before .before .before .before .before .before .before .args .heights .now) (c .before .before .before .before .before .before .before .before .before .before .before .before .before .before .before .before .before .args .blinds .now) _ (c .before .before .before .before .before .before .before .before .before .before .before .before .before .before .before .before .before .pre .1 .0 .placed .of .first) (c .before .before .before .before .before .before .before .before .before .before .before .before .before .before .before .before .before .pre .1 .1 .1) (c .before .before .before .before .before .before .before .before .before .before .before .before .mark-height .ensures) (c .before .before .before .before .before .before .before .passes-at .result) _ (c .before .before .before .before .before .before .before .passes-at .ensures .0) (c .enum-told .given .1), (let q = Cycle.loop-in (c .before .before .before .before .before .before .before .before .before .before .before .before .before .before .before .before .before .args .t .now) (c .before .before .before .before .before .before .before .before .before .before .before .before .before .before .before .before .before .args .heights .now) (c .before .before .before .before .before .before .before .before .before .before .before .before .before .before .before .before .before .args .blinds .now) (c .before .before .before .before .before .before .before .before .before .before .before .before .before .before .before .before .before .args .x) (c .before .before .before .before .before .before .before .before .before .before .before .before .before .before .before .before .before .args .target) (c .before .before .before .before .before .before .before .before .before .before .before .before .before .before .before .before .before .args .ip) (c .before .before .before .before .before .before .before .before .before .before .before .before .before .before .before .before .before .args .end) (c .before .before .before .before .before .before .before .before .before .before .before .before .before .before .before .before .before .args .floor) _ _ (c .before .before .before .before .before .before .before .before .before .before .before .before .before .before .before .before .before .pre .1 .0) (c .before .before .before .before .before .before .before .before .before .before .before .before .before .before .before .before .before .pre .1 .1 .0) (c .before .before .before .before .before .before .before .before .before .before .before .before .before .before .before .before .before .pre .1 .1 .1) in (omega (arith, q .0), q .1, (c .before .before .before .before .before .before .before .passes-at .ensures .1, c .before .before .before .before .before .before .before .before .before .before .before .before .before .before .before .before .before .pre .1 .0 .breaks-low))))
-
--- src/lib.rt:650:50
+-- src/lib.rt:676:50
 one-arm-add-interp-region : (t : ℕ) → one-arm-lts.Need-add-interp-region (
   interp-region-below t,
   interp-region.Post,
@@ -1175,7 +1152,7 @@ one-arm-add-interp-region : (t : ℕ) → one-arm-lts.Need-add-interp-region (
 ) (one-arm-at t) one-arm.Post
 one-arm-add-interp-region t c = search needs
 
--- src/lib.rt:650:9
+-- src/lib.rt:676:9
 one-arm-interp-region-requires : (t : ℕ) → one-arm-lts.Need-interp-region-requires (
   interp-region-below t,
   interp-region.Post,
@@ -1184,7 +1161,7 @@ one-arm-interp-region-requires : (t : ℕ) → one-arm-lts.Need-interp-region-re
 ) (one-arm-at t) one-arm.Post
 one-arm-interp-region-requires t c κs = let q = Cycle.one-arm-in (c .before .before .before .before .before .args .t .now) (c .before .before .before .before .before .args .heights .now) (c .before .before .before .before .before .args .blinds .now) (c .before .before .before .before .before .args .x) (c .before .before .before .before .before .args .target) (c .before .before .before .before .before .args .ip) (c .before .before .before .before .before .args .end) (c .before .before .before .before .before .args .floor) _ _ (c .before .before .before .before .before .pre .1 .0) (c .before .before .before .before .before .pre .1 .1 .0) (c .before .before .before .before .before .pre .1 .1 .1) (c .before .before .before .before .before .pre .1 .1 .2) in (omega (arith, q .0, q .1, c .before .before .before .before .before .pre .0), record { placed = c .before .before .before .before .before .pre .1 .0 .placed; from = c .before .before .before .before .before .args .ip + 1; arm = q .2; after = omega arith; before = omega (arith, q .0); floor-low = c .before .before .before .before .before .pre .1 .0 .floor-low; height-low = c .before .before .before .before .before .pre .1 .0 .height-low; breaks-low = c .before .before .before .before .before .pre .1 .0 .breaks-low })
 
--- src/lib.rt:654:19
+-- src/lib.rt:680:19
 one-arm-enum-told : (t : ℕ) → one-arm-lts.Need-enum-told (
   interp-region-below t,
   interp-region.Post,
@@ -1193,7 +1170,7 @@ one-arm-enum-told : (t : ℕ) → one-arm-lts.Need-enum-told (
 ) (one-arm-at t) one-arm.Post
 one-arm-enum-told t c = search needs
 
--- src/lib.rt:654:19
+-- src/lib.rt:680:19
 one-arm-add-t22 : (t : ℕ) → one-arm-lts.Need-add-t22 (
   interp-region-below t,
   interp-region.Post,
@@ -1202,7 +1179,7 @@ one-arm-add-t22 : (t : ℕ) → one-arm-lts.Need-add-t22 (
 ) (one-arm-at t) one-arm.Post
 one-arm-add-t22 t c = let q = Cycle.one-arm-in (c .before .before .before .before .before .before .before .before .before .before .before .before .args .t .now) (c .before .before .before .before .before .before .before .before .before .before .before .before .args .heights .now) (c .before .before .before .before .before .before .before .before .before .before .before .before .args .blinds .now) (c .before .before .before .before .before .before .before .before .before .before .before .before .args .x) (c .before .before .before .before .before .before .before .before .before .before .before .before .args .target) (c .before .before .before .before .before .before .before .before .before .before .before .before .args .ip) (c .before .before .before .before .before .before .before .before .before .before .before .before .args .end) (c .before .before .before .before .before .before .before .before .before .before .before .before .args .floor) _ _ (c .before .before .before .before .before .before .before .before .before .before .before .before .pre .1 .0) (c .before .before .before .before .before .before .before .before .before .before .before .before .pre .1 .1 .0) (c .before .before .before .before .before .before .before .before .before .before .before .before .pre .1 .1 .1) (c .before .before .before .before .before .before .before .before .before .before .before .before .pre .1 .1 .2) in omega (arith, q .1, c .before .before .before .before .before .before .before .before .before .before .before .before .fits)
 
--- src/lib.rt:653:9
+-- src/lib.rt:679:9
 one-arm-same-length : (t : ℕ) → one-arm-lts.Need-same-length (
   interp-region-below t,
   interp-region.Post,
@@ -1211,7 +1188,7 @@ one-arm-same-length : (t : ℕ) → one-arm-lts.Need-same-length (
 ) (one-arm-at t) one-arm.Post
 one-arm-same-length t c = search needs
 
--- src/lib.rt:653:9
+-- src/lib.rt:679:9
 one-arm-same-length-2 : (t : ℕ) → one-arm-lts.Need-same-length-2 (
   interp-region-below t,
   interp-region.Post,
@@ -1220,7 +1197,7 @@ one-arm-same-length-2 : (t : ℕ) → one-arm-lts.Need-same-length-2 (
 ) (one-arm-at t) one-arm.Post
 one-arm-same-length-2 t c = search needs
 
--- src/lib.rt:653:9
+-- src/lib.rt:679:9
 one-arm-returns : (t : ℕ) → one-arm-lts.Need-returns (
   interp-region-below t,
   interp-region.Post,
@@ -1229,7 +1206,7 @@ one-arm-returns : (t : ℕ) → one-arm-lts.Need-returns (
 ) (one-arm-at t) one-arm.Post
 one-arm-returns t c = (Cycle.one-refused (c .before .before .before .before .before .before .before .before .before .before .before .before .args .t .now) (c .before .before .before .before .before .before .before .before .before .before .before .before .args .x) (c .before .before .before .before .before .before .before .before .before .before .before .before .args .target) (c .before .before .before .before .before .before .before .before .before .before .before .before .args .ip) (c .before .before .before .before .before .before .before .before .before .before .before .before .args .end) (c .before .before .before .before .before .before .before .before .before .before .before .before .args .floor) (c .before .before .before .before .before .before .before .before .before .before .before .before .args .s) (c .before .before .before .before .before .before .before .before .before .before .before .before .args .b) _ _ (c .before .before .before .before .before .before .interp-region .result) (c .before .before .before .before .before .before .before .before .before .before .before .before .pre .1 .1 .2) (c .before .before .before .before .before .before .interp-region .ensures .0) ((c .before .before .before .before .before .before .before .before .before .before .before .before .args .target) + 1) (c .enum-told .given .1), (let q = Cycle.one-arm-in (c .before .before .before .before .before .before .before .before .before .before .before .before .args .t .now) (c .before .before .before .before .before .before .before .before .before .before .before .before .args .heights .now) (c .before .before .before .before .before .before .before .before .before .before .before .before .args .blinds .now) (c .before .before .before .before .before .before .before .before .before .before .before .before .args .x) (c .before .before .before .before .before .before .before .before .before .before .before .before .args .target) (c .before .before .before .before .before .before .before .before .before .before .before .before .args .ip) (c .before .before .before .before .before .before .before .before .before .before .before .before .args .end) (c .before .before .before .before .before .before .before .before .before .before .before .before .args .floor) _ _ (c .before .before .before .before .before .before .before .before .before .before .before .before .pre .1 .0) (c .before .before .before .before .before .before .before .before .before .before .before .before .pre .1 .1 .0) (c .before .before .before .before .before .before .before .before .before .before .before .before .pre .1 .1 .1) (c .before .before .before .before .before .before .before .before .before .before .before .before .pre .1 .1 .2) in (omega (arith, q .0), omega (arith, q .1), c .before .before .before .before .before .before .interp-region .ensures .1)))
 
--- src/lib.rt:664:9
+-- src/lib.rt:690:9
 one-arm-join-ends-requires : (t : ℕ) → one-arm-lts.Need-join-ends-requires (
   interp-region-below t,
   interp-region.Post,
@@ -1238,7 +1215,7 @@ one-arm-join-ends-requires : (t : ℕ) → one-arm-lts.Need-join-ends-requires (
 ) (one-arm-at t) one-arm.Post
 one-arm-join-ends-requires t c κs = (c .before .before .before .before .before .before .interp-region .ensures .1 .0, c .before .before .before .before .before .before .before .before .before .before .before .before .pre .1 .0 .height-low, c .before .before .before .before .before .before .interp-region .ensures .1 .1, omega (arith, c .before .before .before .before .before .before .before .before .before .before .before .before .pre .1 .0 .placed .of .locals, locals-low (c .before .before .before .before .before .before .before .before .before .before .before .before .args .t .now) (c .before .before .before .before .before .before .before .before .before .before .before .before .args .x .chunk)), (Laws.open-by (c .before .before .before .before .before .before .interp-region .result .flow) (c .before .match .keys2)), tt)
 
--- src/lib.rt:666:15
+-- src/lib.rt:692:15
 one-arm-add-t21 : (t : ℕ) → one-arm-lts.Need-add-t21 (
   interp-region-below t,
   interp-region.Post,
@@ -1247,7 +1224,7 @@ one-arm-add-t21 : (t : ℕ) → one-arm-lts.Need-add-t21 (
 ) (one-arm-at t) one-arm.Post
 one-arm-add-t21 t c = let q = Cycle.one-arm-in (c .before .before .before .before .before .before .before .before .before .before .before .before .before .args .t .now) (c .before .before .before .before .before .before .before .before .before .before .before .before .before .args .heights .now) (c .before .before .before .before .before .before .before .before .before .before .before .before .before .args .blinds .now) (c .before .before .before .before .before .before .before .before .before .before .before .before .before .args .x) (c .before .before .before .before .before .before .before .before .before .before .before .before .before .args .target) (c .before .before .before .before .before .before .before .before .before .before .before .before .before .args .ip) (c .before .before .before .before .before .before .before .before .before .before .before .before .before .args .end) (c .before .before .before .before .before .before .before .before .before .before .before .before .before .args .floor) _ _ (c .before .before .before .before .before .before .before .before .before .before .before .before .before .pre .1 .0) (c .before .before .before .before .before .before .before .before .before .before .before .before .before .pre .1 .1 .0) (c .before .before .before .before .before .before .before .before .before .before .before .before .before .pre .1 .1 .1) (c .before .before .before .before .before .before .before .before .before .before .before .before .before .pre .1 .1 .2) in omega (arith, q .1, c .before .before .before .before .before .before .before .before .before .before .before .before .before .fits)
 
--- src/lib.rt:633:1
+-- src/lib.rt:659:1
 one-arm-same-length-3 : (t : ℕ) → one-arm-lts.Need-same-length-3 (
   interp-region-below t,
   interp-region.Post,
@@ -1256,7 +1233,7 @@ one-arm-same-length-3 : (t : ℕ) → one-arm-lts.Need-same-length-3 (
 ) (one-arm-at t) one-arm.Post
 one-arm-same-length-3 t c = search needs
 
--- src/lib.rt:633:1
+-- src/lib.rt:659:1
 one-arm-same-length-4 : (t : ℕ) → one-arm-lts.Need-same-length-4 (
   interp-region-below t,
   interp-region.Post,
@@ -1265,7 +1242,7 @@ one-arm-same-length-4 : (t : ℕ) → one-arm-lts.Need-same-length-4 (
 ) (one-arm-at t) one-arm.Post
 one-arm-same-length-4 t c = search needs
 
--- src/lib.rt:633:1
+-- src/lib.rt:659:1
 one-arm-returns-2 : (t : ℕ) → one-arm-lts.Need-returns-2 (
   interp-region-below t,
   interp-region.Post,
@@ -1281,7 +1258,7 @@ passes-at-Inv-passes t heights₀ blinds₀ x ip exit locals floor no-breaks bod
 abbrev passes-at-μ-passes : passes-at-lts.MeasureT-passes
 passes-at-μ-passes t heights₀ blinds₀ x ip exit locals floor no-breaks body last head₀ left₀ heights blinds head left = left
 
--- src/lib.rt:777:16
+-- src/lib.rt:784:16
 passes-at-add-body : (t : ℕ) → passes-at-lts.Need-add-body (
   interp-region-below t,
   interp-region.Post,
@@ -1300,7 +1277,7 @@ passes-at-add-body : (t : ℕ) → passes-at-lts.Need-add-body (
 ) (passes-at-at t) passes-at.Post passes-at-Inv-passes passes-at-μ-passes
 passes-at-add-body t c = omega (arith, c .before .before .before .pre .1 .1 .0, c .before .before .before .pre .1 .1 .1, c .before .before .before .fits)
 
--- src/lib.rt:778:16
+-- src/lib.rt:785:16
 passes-at-sub-last : (t : ℕ) → passes-at-lts.Need-sub-last (
   interp-region-below t,
   interp-region.Post,
@@ -1319,7 +1296,7 @@ passes-at-sub-last : (t : ℕ) → passes-at-lts.Need-sub-last (
 ) (passes-at-at t) passes-at.Post passes-at-Inv-passes passes-at-μ-passes
 passes-at-sub-last t c = omega (arith, c .before .before .before .pre .1 .1 .0)
 
--- src/lib.rt:780:20
+-- src/lib.rt:787:20
 passes-at-add-left : (t : ℕ) → passes-at-lts.Need-add-left (
   interp-region-below t,
   interp-region.Post,
@@ -1338,7 +1315,7 @@ passes-at-add-left : (t : ℕ) → passes-at-lts.Need-add-left (
 ) (passes-at-at t) passes-at.Post passes-at-Inv-passes passes-at-μ-passes
 passes-at-add-left t c = omega (arith, c .before .before .before .pre .1 .0 .of .locals, locals-low (c .before .before .before .args .t .now) (c .before .before .before .args .x .chunk))
 
--- src/lib.rt:781:9
+-- src/lib.rt:788:9
 passes-at-passes-holds : (t : ℕ) → passes-at-lts.Need-passes-holds (
   interp-region-below t,
   interp-region.Post,
@@ -1357,7 +1334,7 @@ passes-at-passes-holds : (t : ℕ) → passes-at-lts.Need-passes-holds (
 ) (passes-at-at t) passes-at.Post passes-at-Inv-passes passes-at-μ-passes
 passes-at-passes-holds t c = Cycle.passing-start (c .before .before .before .args .t .now) (c .before .before .before .args .x) (c .before .before .before .args .ip) (c .before .before .before .args .exit) (c .before .before .before .args .s0) (c .before .before .before .args .heights .now) (c .before .before .before .args .blinds .now) (c .before .before .before .pre .1 .0 .of .locals) (omega (arith, c .before .before .before .pre .1 .0 .of .locals, locals-low (c .before .before .before .args .t .now) (c .before .before .before .args .x .chunk)))
 
--- src/lib.rt:782:13
+-- src/lib.rt:789:13
 passes-at-interp-region-requires : (t : ℕ) → passes-at-lts.Need-interp-region-requires (
   interp-region-below t,
   interp-region.Post,
@@ -1394,7 +1371,7 @@ passes-at-enum-told : (t : ℕ) → passes-at-lts.Need-enum-told (
 ) (passes-at-at t) passes-at.Post passes-at-Inv-passes passes-at-μ-passes
 passes-at-enum-told t c = search needs
 
--- src/lib.rt:788:31
+-- src/lib.rt:795:31
 passes-at-enum-told-2 : (t : ℕ) → passes-at-lts.Need-enum-told-2 (
   interp-region-below t,
   interp-region.Post,
@@ -1413,7 +1390,7 @@ passes-at-enum-told-2 : (t : ℕ) → passes-at-lts.Need-enum-told-2 (
 ) (passes-at-at t) passes-at.Post passes-at-Inv-passes passes-at-μ-passes
 passes-at-enum-told-2 t c = search needs
 
--- src/lib.rt:788:31
+-- src/lib.rt:795:31
 passes-at-leave-loop-requires : (t : ℕ) → passes-at-lts.Need-leave-loop-requires (
   interp-region-below t,
   interp-region.Post,
@@ -1432,7 +1409,7 @@ passes-at-leave-loop-requires : (t : ℕ) → passes-at-lts.Need-leave-loop-requ
 ) (passes-at-at t) passes-at.Post passes-at-Inv-passes passes-at-μ-passes
 passes-at-leave-loop-requires t c κs = (c .before .before .before .before .before .before .before .interp-region .ensures .1 .1, omega (arith, (c .before .before .before .before .before .before .before .before .before .before .passes .inv) .head-height, c .before .before .before .before .before .before .before .before .before .before .before .before .before .before .pre .1 .1 .2))
 
--- src/lib.rt:790:27
+-- src/lib.rt:797:27
 passes-at-enum-known-f : (t : ℕ) → passes-at-lts.Need-enum-known-f (
   interp-region-below t,
   interp-region.Post,
@@ -1451,7 +1428,7 @@ passes-at-enum-known-f : (t : ℕ) → passes-at-lts.Need-enum-known-f (
 ) (passes-at-at t) passes-at.Post passes-at-Inv-passes passes-at-μ-passes
 passes-at-enum-known-f t c = search needs
 
--- src/lib.rt:791:17
+-- src/lib.rt:798:17
 passes-at-same-length : (t : ℕ) → passes-at-lts.Need-same-length (
   interp-region-below t,
   interp-region.Post,
@@ -1470,7 +1447,7 @@ passes-at-same-length : (t : ℕ) → passes-at-lts.Need-same-length (
 ) (passes-at-at t) passes-at.Post passes-at-Inv-passes passes-at-μ-passes
 passes-at-same-length t c = search needs
 
--- src/lib.rt:791:17
+-- src/lib.rt:798:17
 passes-at-same-length-2 : (t : ℕ) → passes-at-lts.Need-same-length-2 (
   interp-region-below t,
   interp-region.Post,
@@ -1489,7 +1466,7 @@ passes-at-same-length-2 : (t : ℕ) → passes-at-lts.Need-same-length-2 (
 ) (passes-at-at t) passes-at.Post passes-at-Inv-passes passes-at-μ-passes
 passes-at-same-length-2 t c = search needs
 
--- src/lib.rt:791:17
+-- src/lib.rt:798:17
 passes-at-returns : (t : ℕ) → passes-at-lts.Need-returns (
   interp-region-below t,
   interp-region.Post,
@@ -1509,7 +1486,7 @@ passes-at-returns : (t : ℕ) → passes-at-lts.Need-returns (
 unfolding Outcomes.leavingOf
 passes-at-returns t c = (Cycle.pass-refused (c .before .before .before .before .before .before .before .before .before .before .before .before .before .before .before .args .t .now) (c .before .before .before .before .before .before .before .before .before .before .before .before .before .before .before .args .x) (c .before .before .before .before .before .before .before .before .before .before .before .before .before .before .before .args .ip) (c .before .before .before .before .before .before .before .before .before .before .before .before .before .before .before .args .exit) (c .before .before .before .before .before .before .before .before .before .before .before .before .before .before .before .args .s0) (c .before .before .before .before .before .before .before .before .before .before .before .before .before .before .before .args .heights .now) (c .before .before .before .before .before .before .before .before .before .before .before .before .before .before .before .args .blinds .now) (c .before .before .before .before .before .before .before .before .before .before .before .passes .heights) (c .before .before .before .before .before .before .before .before .before .before .before .passes .blinds) (c .before .before .before .before .before .before .before .before .before .before .before .passes .head) (c .before .before .before .before .before .before .before .before .before .before .before .passes .left) (c .before .before .before .before .before .before .before .before .before .before .before .passes .inv) (c .before .before .before .before .before .before .before .before .interp-region .result) _ _ _ refl (c .before .before .before .before .before .before .before .before .interp-region .ensures .0) (c .before .f .given .1), omega (arith, (c .before .before .before .before .before .before .before .before .before .before .before .passes .inv) .head-height, c .before .before .before .before .before .before .before .before .before .before .before .before .before .before .before .pre .1 .1 .2))
 
--- src/lib.rt:798:12
+-- src/lib.rt:805:12
 passes-at-same-stack-requires : (t : ℕ) → passes-at-lts.Need-same-stack-requires (
   interp-region-below t,
   interp-region.Post,
@@ -1528,7 +1505,7 @@ passes-at-same-stack-requires : (t : ℕ) → passes-at-lts.Need-same-stack-requ
 ) (passes-at-at t) passes-at.Post passes-at-Inv-passes passes-at-μ-passes
 passes-at-same-stack-requires t c κs = c .before .before .before .before .before .before .before .before .interp-region .ensures .1 .0
 
--- src/lib.rt:799:13
+-- src/lib.rt:806:13
 passes-at-not-neutral-requires : (t : ℕ) → passes-at-lts.Need-not-neutral-requires (
   interp-region-below t,
   interp-region.Post,
@@ -1547,7 +1524,7 @@ passes-at-not-neutral-requires : (t : ℕ) → passes-at-lts.Need-not-neutral-re
 ) (passes-at-at t) passes-at.Post passes-at-Inv-passes passes-at-μ-passes
 passes-at-not-neutral-requires t c κs = search needs
 
--- src/lib.rt:799:13
+-- src/lib.rt:806:13
 passes-at-same-length-3 : (t : ℕ) → passes-at-lts.Need-same-length-3 (
   interp-region-below t,
   interp-region.Post,
@@ -1566,7 +1543,7 @@ passes-at-same-length-3 : (t : ℕ) → passes-at-lts.Need-same-length-3 (
 ) (passes-at-at t) passes-at.Post passes-at-Inv-passes passes-at-μ-passes
 passes-at-same-length-3 t c = search needs
 
--- src/lib.rt:799:13
+-- src/lib.rt:806:13
 passes-at-same-length-4 : (t : ℕ) → passes-at-lts.Need-same-length-4 (
   interp-region-below t,
   interp-region.Post,
@@ -1585,7 +1562,7 @@ passes-at-same-length-4 : (t : ℕ) → passes-at-lts.Need-same-length-4 (
 ) (passes-at-at t) passes-at.Post passes-at-Inv-passes passes-at-μ-passes
 passes-at-same-length-4 t c = search needs
 
--- src/lib.rt:799:13
+-- src/lib.rt:806:13
 passes-at-returns-2 : (t : ℕ) → passes-at-lts.Need-returns-2 (
   interp-region-below t,
   interp-region.Post,
@@ -1604,7 +1581,7 @@ passes-at-returns-2 : (t : ℕ) → passes-at-lts.Need-returns-2 (
 ) (passes-at-at t) passes-at.Post passes-at-Inv-passes passes-at-μ-passes
 passes-at-returns-2 t c = (c .not-neutral .ensures .0 (c .before .before .before .before .before .before .before .before .before .before .before .before .before .before .before .before .before .before .args .x .locals) _ ∙ Cycle.pass-not-neutral (c .before .before .before .before .before .before .before .before .before .before .before .before .before .before .before .before .before .before .args .t .now) (c .before .before .before .before .before .before .before .before .before .before .before .before .before .before .before .before .before .before .args .x) (c .before .before .before .before .before .before .before .before .before .before .before .before .before .before .before .before .before .before .args .ip) (c .before .before .before .before .before .before .before .before .before .before .before .before .before .before .before .before .before .before .args .exit) (c .before .before .before .before .before .before .before .before .before .before .before .before .before .before .before .before .before .before .args .s0) (c .before .before .before .before .before .before .before .before .before .before .before .before .before .before .before .before .before .before .args .heights .now) (c .before .before .before .before .before .before .before .before .before .before .before .before .before .before .before .before .before .before .args .blinds .now) (c .before .before .before .before .before .before .before .before .before .before .before .before .before .before .passes .heights) (c .before .before .before .before .before .before .before .before .before .before .before .before .before .before .passes .blinds) (c .before .before .before .before .before .before .before .before .before .before .before .before .before .before .passes .head) (c .before .before .before .before .before .before .before .before .before .before .before .before .before .before .passes .left) (c .before .before .before .before .before .before .before .before .before .before .before .before .before .before .passes .inv) (c .before .before .before .before .before .before .before .before .before .before .before .interp-region .result) _ _ _ refl (c .before .before .before .before .before .before .before .before .before .before .before .interp-region .ensures .0) (c .before .before .before .before .enum-told .given .1) (sym (c .before .before .same-stack .ensures) ∙ c .before .if1 .left), subst (λ (z : State). z .height ≤ 64) (sym (c .not-neutral .ensures .1)) (omega (arith, (c .before .before .before .before .before .before .before .before .before .before .before .before .before .before .passes .inv) .head-height, c .before .before .before .before .before .before .before .before .before .before .before .before .before .before .before .before .before .before .pre .1 .1 .2)))
 
--- src/lib.rt:801:12
+-- src/lib.rt:808:12
 passes-at-covers-locals-requires : (t : ℕ) → passes-at-lts.Need-covers-locals-requires (
   interp-region-below t,
   interp-region.Post,
@@ -1623,7 +1600,7 @@ passes-at-covers-locals-requires : (t : ℕ) → passes-at-lts.Need-covers-local
 ) (passes-at-at t) passes-at.Post passes-at-Inv-passes passes-at-μ-passes
 passes-at-covers-locals-requires t c κs = omega (arith, c .before .before .before .before .before .before .before .before .before .before .before .before .before .before .before .before .before .pre .1 .0 .of .locals, locals-low (c .before .before .before .before .before .before .before .before .before .before .before .before .before .before .before .before .before .args .t .now) (c .before .before .before .before .before .before .before .before .before .before .before .before .before .before .before .before .before .args .x .chunk))
 
--- src/lib.rt:802:27
+-- src/lib.rt:809:27
 passes-at-leave-loop-requires-2 : (t : ℕ) → passes-at-lts.Need-leave-loop-requires-2 (
   interp-region-below t,
   interp-region.Post,
@@ -1642,7 +1619,7 @@ passes-at-leave-loop-requires-2 : (t : ℕ) → passes-at-lts.Need-leave-loop-re
 ) (passes-at-at t) passes-at.Post passes-at-Inv-passes passes-at-μ-passes
 passes-at-leave-loop-requires-2 t c κs = (c .before .before .before .before .before .before .before .before .before .before .before .before .interp-region .ensures .1 .1, c .before .before .before .before .before .before .before .before .before .before .before .before .interp-region .ensures .1 .0)
 
--- src/lib.rt:805:27
+-- src/lib.rt:812:27
 passes-at-last-pass-requires : (t : ℕ) → passes-at-lts.Need-last-pass-requires (
   interp-region-below t,
   interp-region.Post,
@@ -1661,7 +1638,7 @@ passes-at-last-pass-requires : (t : ℕ) → passes-at-lts.Need-last-pass-requir
 ) (passes-at-at t) passes-at.Post passes-at-Inv-passes passes-at-μ-passes
 passes-at-last-pass-requires t c κs = (omega (arith, c .before .before .before .before .before .before .before .before .before .before .before .before .before .before .before .before .before .before .before .before .before .before .pre .0, c .before .before .before .before .before .before .before .before .before .before .before .before .before .before .before .before .before .before .before .before .before .before .pre .1 .1 .0), (Cycle.placed-by (c .before .before .before .before .before .before .before .before .before .before .before .before .before .before .before .before .before .before .before .before .before .before .args .t .now) (c .before .before .before .before .before .before .before .before .before .before .before .before .before .before .before .before .before .before .before .before .before .before .args .heights .now) (c .before .before .before .before .before .before .before .before .before .before .before .before .before .before .before .before .before .before .before .before .before .before .args .blinds .now) _ _ (c .before .before .before .before .before .before .before .before .before .before .before .before .before .before .before .before .before .before .before .before .before .before .args .x) (c .before .before .before .before .before .before .before .before .before .before .before .before .before .before .before .interp-region .kept .1 .0 ∙ (c .before .before .before .before .before .before .before .before .before .before .before .before .before .before .before .before .before .before .passes .inv) .heights-same) (c .before .before .before .before .before .before .before .before .before .before .before .before .before .before .before .interp-region .kept .1 .1 .0 ∙ (c .before .before .before .before .before .before .before .before .before .before .before .before .before .before .before .before .before .before .passes .inv) .blinds-same) (c .before .before .before .before .before .before .before .before .before .before .before .before .before .before .before .before .before .before .before .before .before .before .pre .1 .0), (c .before .before .before .before .before .before .before .before .before .before .before .before .before .before .before .before .before .before .before .before .before .before .pre .1 .1 .0, c .before .before .before .before .before .before .before .before .before .before .before .before .before .before .before .before .before .before .before .before .before .before .pre .1 .1 .1, c .before .before .before .before .before .before .before .before .before .before .before .before .before .before .before .before .before .before .before .before .before .before .pre .1 .1 .2, omega (arith, (c .before .before .before .before .before .before .before .before .before .before .before .before .before .before .before .before .before .before .passes .inv) .head-height, c .before .before .before .before .before .before .before .before .before .before .before .before .before .before .before .before .before .before .before .before .before .before .pre .1 .1 .2), c .before .before .before .before .before .before .before .before .before .before .before .before .before .before .before .before .before .before .before .before .before .before .pre .1 .1 .3)))
 
--- src/lib.rt:807:9
+-- src/lib.rt:814:9
 passes-at-join-locals-requires : (t : ℕ) → passes-at-lts.Need-join-locals-requires (
   interp-region-below t,
   interp-region.Post,
@@ -1680,7 +1657,7 @@ passes-at-join-locals-requires : (t : ℕ) → passes-at-lts.Need-join-locals-re
 ) (passes-at-at t) passes-at.Post passes-at-Inv-passes passes-at-μ-passes
 passes-at-join-locals-requires t c κs = (omega (arith, (c .before .before .before .before .before .before .before .before .before .before .before .before .before .before .before .before .passes .inv) .head-height, c .before .before .before .before .before .before .before .before .before .before .before .before .before .before .before .before .before .before .before .before .pre .1 .1 .2), omega (arith, c .before .before .before .before .before .before .before .before .before .before .before .before .before .before .before .before .before .before .before .before .pre .1 .0 .of .locals, locals-low (c .before .before .before .before .before .before .before .before .before .before .before .before .before .before .before .before .before .before .before .before .args .t .now) (c .before .before .before .before .before .before .before .before .before .before .before .before .before .before .before .before .before .before .before .before .args .x .chunk)))
 
--- src/lib.rt:808:9
+-- src/lib.rt:815:9
 passes-at-sub-left : (t : ℕ) → passes-at-lts.Need-sub-left (
   interp-region-below t,
   interp-region.Post,
@@ -1699,7 +1676,7 @@ passes-at-sub-left : (t : ℕ) → passes-at-lts.Need-sub-left (
 ) (passes-at-at t) passes-at.Post passes-at-Inv-passes passes-at-μ-passes
 passes-at-sub-left t c = omega (arith, c .before .if3 .left)
 
--- src/lib.rt:781:9
+-- src/lib.rt:788:9
 passes-at-passes-less : (t : ℕ) → passes-at-lts.Need-passes-less (
   interp-region-below t,
   interp-region.Post,
@@ -1718,7 +1695,7 @@ passes-at-passes-less : (t : ℕ) → passes-at-lts.Need-passes-less (
 ) (passes-at-at t) passes-at.Post passes-at-Inv-passes passes-at-μ-passes
 passes-at-passes-less t c = omega (arith, c .before .if3 .left)
 
--- src/lib.rt:781:9
+-- src/lib.rt:788:9
 passes-at-passes-again : (t : ℕ) → passes-at-lts.Need-passes-again (
   interp-region-below t,
   interp-region.Post,
@@ -1738,7 +1715,7 @@ passes-at-passes-again : (t : ℕ) → passes-at-lts.Need-passes-again (
 unfolding covers-all
 passes-at-passes-again t c = Cycle.pass-again (c .before .before .before .before .before .before .before .before .before .before .before .before .before .before .before .before .before .before .before .before .before .args .t .now) (c .before .before .before .before .before .before .before .before .before .before .before .before .before .before .before .before .before .before .before .before .before .args .x) (c .before .before .before .before .before .before .before .before .before .before .before .before .before .before .before .before .before .before .before .before .before .args .ip) (c .before .before .before .before .before .before .before .before .before .before .before .before .before .before .before .before .before .before .before .before .before .args .exit) (c .before .before .before .before .before .before .before .before .before .before .before .before .before .before .before .before .before .before .before .before .before .args .s0) (c .before .before .before .before .before .before .before .before .before .before .before .before .before .before .before .before .before .before .before .before .before .args .heights .now) (c .before .before .before .before .before .before .before .before .before .before .before .before .before .before .before .before .before .before .before .before .before .args .blinds .now) (c .before .before .before .before .before .before .before .before .before .before .before .before .before .before .before .before .before .passes .heights) (c .before .before .before .before .before .before .before .before .before .before .before .before .before .before .before .before .before .passes .blinds) (c .before .before .before .before .before .before .before .before .before .before .before .before .before .before .before .before .before .passes .head) (c .before .before .before .before .before .before .before .before .before .before .before .before .before .before .before .before .before .passes .left) (c .before .before .before .before .before .before .before .before .before .before .before .before .before .before .before .before .before .passes .inv) (c .before .before .before .before .before .before .before .before .before .before .before .before .before .before .interp-region .result) _ _ _ refl (c .before .before .before .before .before .before .before .before .before .before .before .before .before .before .interp-region .ensures .0) (c .before .before .before .before .before .before .before .enum-told .given .1) (sym (c .before .before .before .before .before .same-stack .ensures) ∙ c .before .before .before .before .if1 .taken) (sym (c .before .before .before .covers-locals .ensures) ∙ c .before .before .if2 .left) (c .before .if3 .left) (c .join-locals .result) (c .join-locals .ensures .0) (c .join-locals .ensures .1) (c .before .before .before .before .before .before .before .before .before .before .before .before .before .before .interp-region .kept .1 .0) (c .before .before .before .before .before .before .before .before .before .before .before .before .before .before .interp-region .kept .1 .1 .0)
 
--- src/lib.rt:758:1
+-- src/lib.rt:765:1
 passes-at-same-length-5 : (t : ℕ) → passes-at-lts.Need-same-length-5 (
   interp-region-below t,
   interp-region.Post,
@@ -1757,7 +1734,7 @@ passes-at-same-length-5 : (t : ℕ) → passes-at-lts.Need-same-length-5 (
 ) (passes-at-at t) passes-at.Post passes-at-Inv-passes passes-at-μ-passes
 passes-at-same-length-5 t c = search needs
 
--- src/lib.rt:758:1
+-- src/lib.rt:765:1
 passes-at-same-length-6 : (t : ℕ) → passes-at-lts.Need-same-length-6 (
   interp-region-below t,
   interp-region.Post,
@@ -1776,7 +1753,7 @@ passes-at-same-length-6 : (t : ℕ) → passes-at-lts.Need-same-length-6 (
 ) (passes-at-at t) passes-at.Post passes-at-Inv-passes passes-at-μ-passes
 passes-at-same-length-6 t c = search needs
 
--- src/lib.rt:758:1
+-- src/lib.rt:765:1
 passes-at-returns-3 : (t : ℕ) → passes-at-lts.Need-returns-3 (
   interp-region-below t,
   interp-region.Post,
@@ -1795,7 +1772,7 @@ passes-at-returns-3 : (t : ℕ) → passes-at-lts.Need-returns-3 (
 ) (passes-at-at t) passes-at.Post passes-at-Inv-passes passes-at-μ-passes
 passes-at-returns-3 t c = (c .leave-loop .ensures .0 _ ∙ Cycle.pass-no-end (c .before .before .before .before .before .before .before .before .before .before .before .before .before .before .before .args .t .now) (c .before .before .before .before .before .before .before .before .before .before .before .before .before .before .before .args .x) (c .before .before .before .before .before .before .before .before .before .before .before .before .before .before .before .args .ip) (c .before .before .before .before .before .before .before .before .before .before .before .before .before .before .before .args .exit) (c .before .before .before .before .before .before .before .before .before .before .before .before .before .before .before .args .s0) (c .before .before .before .before .before .before .before .before .before .before .before .before .before .before .before .args .heights .now) (c .before .before .before .before .before .before .before .before .before .before .before .before .before .before .before .args .blinds .now) (c .before .before .before .before .before .before .before .before .before .before .before .passes .heights) (c .before .before .before .before .before .before .before .before .before .before .before .passes .blinds) (c .before .before .before .before .before .before .before .before .before .before .before .passes .head) (c .before .before .before .before .before .before .before .before .before .before .before .passes .left) (c .before .before .before .before .before .before .before .before .before .before .before .passes .inv) (c .before .before .before .before .before .before .before .before .interp-region .result) _ _ _ refl (c .before .before .before .before .before .before .before .before .interp-region .ensures .0) (c .before .enum-told2 .given .1), c .leave-loop .ensures .1)
 
--- src/lib.rt:758:1
+-- src/lib.rt:765:1
 passes-at-same-length-7 : (t : ℕ) → passes-at-lts.Need-same-length-7 (
   interp-region-below t,
   interp-region.Post,
@@ -1814,7 +1791,7 @@ passes-at-same-length-7 : (t : ℕ) → passes-at-lts.Need-same-length-7 (
 ) (passes-at-at t) passes-at.Post passes-at-Inv-passes passes-at-μ-passes
 passes-at-same-length-7 t c = search needs
 
--- src/lib.rt:758:1
+-- src/lib.rt:765:1
 passes-at-same-length-8 : (t : ℕ) → passes-at-lts.Need-same-length-8 (
   interp-region-below t,
   interp-region.Post,
@@ -1833,7 +1810,7 @@ passes-at-same-length-8 : (t : ℕ) → passes-at-lts.Need-same-length-8 (
 ) (passes-at-at t) passes-at.Post passes-at-Inv-passes passes-at-μ-passes
 passes-at-same-length-8 t c = search needs
 
--- src/lib.rt:758:1
+-- src/lib.rt:765:1
 passes-at-returns-4 : (t : ℕ) → passes-at-lts.Need-returns-4 (
   interp-region-below t,
   interp-region.Post,
@@ -1853,7 +1830,7 @@ passes-at-returns-4 : (t : ℕ) → passes-at-lts.Need-returns-4 (
 unfolding covers-all
 passes-at-returns-4 t c = (c .leave-loop2 .ensures .0 _ ∙ Cycle.pass-stable (c .before .before .before .before .before .before .before .before .before .before .before .before .before .before .before .before .before .before .before .before .args .t .now) (c .before .before .before .before .before .before .before .before .before .before .before .before .before .before .before .before .before .before .before .before .args .x) (c .before .before .before .before .before .before .before .before .before .before .before .before .before .before .before .before .before .before .before .before .args .ip) (c .before .before .before .before .before .before .before .before .before .before .before .before .before .before .before .before .before .before .before .before .args .exit) (c .before .before .before .before .before .before .before .before .before .before .before .before .before .before .before .before .before .before .before .before .args .s0) (c .before .before .before .before .before .before .before .before .before .before .before .before .before .before .before .before .before .before .before .before .args .heights .now) (c .before .before .before .before .before .before .before .before .before .before .before .before .before .before .before .before .before .before .before .before .args .blinds .now) (c .before .before .before .before .before .before .before .before .before .before .before .before .before .before .before .before .passes .heights) (c .before .before .before .before .before .before .before .before .before .before .before .before .before .before .before .before .passes .blinds) (c .before .before .before .before .before .before .before .before .before .before .before .before .before .before .before .before .passes .head) (c .before .before .before .before .before .before .before .before .before .before .before .before .before .before .before .before .passes .left) (c .before .before .before .before .before .before .before .before .before .before .before .before .before .before .before .before .passes .inv) (c .before .before .before .before .before .before .before .before .before .before .before .before .before .interp-region .result) _ _ _ refl (c .before .before .before .before .before .before .before .before .before .before .before .before .before .interp-region .ensures .0) (c .before .before .before .before .before .before .enum-told .given .1) (sym (c .before .before .before .before .same-stack .ensures) ∙ c .before .before .before .if1 .taken) (sym (c .before .before .covers-locals .ensures) ∙ c .before .if2 .taken), c .leave-loop2 .ensures .1)
 
--- src/lib.rt:758:1
+-- src/lib.rt:765:1
 passes-at-same-length-9 : (t : ℕ) → passes-at-lts.Need-same-length-9 (
   interp-region-below t,
   interp-region.Post,
@@ -1872,7 +1849,7 @@ passes-at-same-length-9 : (t : ℕ) → passes-at-lts.Need-same-length-9 (
 ) (passes-at-at t) passes-at.Post passes-at-Inv-passes passes-at-μ-passes
 passes-at-same-length-9 t c = c .before .before .before .before .last-pass .kept .1 .0 ∙ (c .before .before .before .before .before .before .before .before .before .before .before .before .before .before .before .before .before .before .before .before .interp-region .kept .1 .0 ∙ (c .before .before .before .before .before .before .before .before .before .before .before .before .before .before .before .before .before .before .before .before .before .before .before .passes .inv) .heights-same)
 
--- src/lib.rt:758:1
+-- src/lib.rt:765:1
 passes-at-same-length-10 : (t : ℕ) → passes-at-lts.Need-same-length-10 (
   interp-region-below t,
   interp-region.Post,
@@ -1891,7 +1868,7 @@ passes-at-same-length-10 : (t : ℕ) → passes-at-lts.Need-same-length-10 (
 ) (passes-at-at t) passes-at.Post passes-at-Inv-passes passes-at-μ-passes
 passes-at-same-length-10 t c = c .before .before .before .before .last-pass .kept .1 .1 .0 ∙ (c .before .before .before .before .before .before .before .before .before .before .before .before .before .before .before .before .before .before .before .before .interp-region .kept .1 .1 .0 ∙ (c .before .before .before .before .before .before .before .before .before .before .before .before .before .before .before .before .before .before .before .before .before .before .before .passes .inv) .blinds-same)
 
--- src/lib.rt:758:1
+-- src/lib.rt:765:1
 passes-at-returns-5 : (t : ℕ) → passes-at-lts.Need-returns-5 (
   interp-region-below t,
   interp-region.Post,
@@ -1911,7 +1888,7 @@ passes-at-returns-5 : (t : ℕ) → passes-at-lts.Need-returns-5 (
 unfolding covers-all
 passes-at-returns-5 t c = (c .before .before .before .before .last-pass .ensures .0 ∙ Cycle.pass-last (c .before .before .before .before .before .before .before .before .before .before .before .before .before .before .before .before .before .before .before .before .before .before .before .before .before .before .before .args .t .now) (c .before .before .before .before .before .before .before .before .before .before .before .before .before .before .before .before .before .before .before .before .before .before .before .before .before .before .before .args .x) (c .before .before .before .before .before .before .before .before .before .before .before .before .before .before .before .before .before .before .before .before .before .before .before .before .before .before .before .args .ip) (c .before .before .before .before .before .before .before .before .before .before .before .before .before .before .before .before .before .before .before .before .before .before .before .before .before .before .before .args .exit) (c .before .before .before .before .before .before .before .before .before .before .before .before .before .before .before .before .before .before .before .before .before .before .before .before .before .before .before .args .s0) (c .before .before .before .before .before .before .before .before .before .before .before .before .before .before .before .before .before .before .before .before .before .before .before .before .before .before .before .args .heights .now) (c .before .before .before .before .before .before .before .before .before .before .before .before .before .before .before .before .before .before .before .before .before .before .before .before .before .before .before .args .blinds .now) (c .before .before .before .before .before .before .before .before .before .before .before .before .before .before .before .before .before .before .before .before .before .before .before .passes .heights) (c .before .before .before .before .before .before .before .before .before .before .before .before .before .before .before .before .before .before .before .before .before .before .before .passes .blinds) (c .before .before .before .before .before .before .before .before .before .before .before .before .before .before .before .before .before .before .before .before .before .before .before .passes .head) (c .before .before .before .before .before .before .before .before .before .before .before .before .before .before .before .before .before .before .before .before .before .before .before .passes .left) (c .before .before .before .before .before .before .before .before .before .before .before .before .before .before .before .before .before .before .before .before .before .before .before .passes .inv) (c .before .before .before .before .before .before .before .before .before .before .before .before .before .before .before .before .before .before .before .before .interp-region .result) _ _ _ refl (c .before .before .before .before .before .before .before .before .before .before .before .before .before .before .before .before .before .before .before .before .interp-region .ensures .0) (c .before .before .before .before .before .before .before .before .before .before .before .before .before .enum-told .given .1) (sym (c .before .before .before .before .before .before .before .before .before .before .before .same-stack .ensures) ∙ c .before .before .before .before .before .before .before .before .before .before .if1 .taken) (sym (c .before .before .before .before .before .before .before .before .before .covers-locals .ensures) ∙ c .before .before .before .before .before .before .before .before .if2 .left) (c .before .before .before .before .before .before .before .if3 .taken), c .before .before .before .before .last-pass .ensures .1)
 
--- src/lib.rt:690:50
+-- src/lib.rt:716:50
 two-arms-add-interp-region : (t : ℕ) → two-arms-lts.Need-add-interp-region (
   interp-region-below t,
   interp-region.Post,
@@ -1920,7 +1897,7 @@ two-arms-add-interp-region : (t : ℕ) → two-arms-lts.Need-add-interp-region (
 ) (two-arms-at t) two-arms.Post
 two-arms-add-interp-region t c = search needs
 
--- src/lib.rt:690:58
+-- src/lib.rt:716:58
 two-arms-sub-interp-region : (t : ℕ) → two-arms-lts.Need-sub-interp-region (
   interp-region-below t,
   interp-region.Post,
@@ -1929,7 +1906,7 @@ two-arms-sub-interp-region : (t : ℕ) → two-arms-lts.Need-sub-interp-region (
 ) (two-arms-at t) two-arms.Post
 two-arms-sub-interp-region t c = let q = Cycle.two-arms-in (c .before .before .before .before .before .args .t .now) (c .before .before .before .before .before .args .heights .now) (c .before .before .before .before .before .args .blinds .now) (c .before .before .before .before .before .args .x) (c .before .before .before .before .before .args .target) (c .before .before .before .before .before .args .ip) (c .before .before .before .before .before .args .end) (c .before .before .before .before .before .args .floor) _ _ (c .before .before .before .before .before .pre .1 .0) (c .before .before .before .before .before .pre .1 .1 .0) (c .before .before .before .before .before .pre .1 .1 .1) (c .before .before .before .before .before .args .closer) (c .before .before .before .before .before .pre .1 .1 .2) in omega (arith, q .0)
 
--- src/lib.rt:690:9
+-- src/lib.rt:716:9
 two-arms-interp-region-requires : (t : ℕ) → two-arms-lts.Need-interp-region-requires (
   interp-region-below t,
   interp-region.Post,
@@ -1938,7 +1915,7 @@ two-arms-interp-region-requires : (t : ℕ) → two-arms-lts.Need-interp-region-
 ) (two-arms-at t) two-arms.Post
 two-arms-interp-region-requires t c κs = let q = Cycle.two-arms-in (c .before .before .before .before .before .args .t .now) (c .before .before .before .before .before .args .heights .now) (c .before .before .before .before .before .args .blinds .now) (c .before .before .before .before .before .args .x) (c .before .before .before .before .before .args .target) (c .before .before .before .before .before .args .ip) (c .before .before .before .before .before .args .end) (c .before .before .before .before .before .args .floor) _ _ (c .before .before .before .before .before .pre .1 .0) (c .before .before .before .before .before .pre .1 .1 .0) (c .before .before .before .before .before .pre .1 .1 .1) (c .before .before .before .before .before .args .closer) (c .before .before .before .before .before .pre .1 .1 .2) in (omega (arith, q .0, q .1, q .2, c .before .before .before .before .before .pre .0), record { placed = c .before .before .before .before .before .pre .1 .0 .placed; from = c .before .before .before .before .before .args .ip + 1; arm = q .3; after = omega arith; before = omega (arith, q .0); floor-low = c .before .before .before .before .before .pre .1 .0 .floor-low; height-low = c .before .before .before .before .before .pre .1 .0 .height-low; breaks-low = c .before .before .before .before .before .pre .1 .0 .breaks-low })
 
--- src/lib.rt:694:19
+-- src/lib.rt:720:19
 two-arms-enum-told : (t : ℕ) → two-arms-lts.Need-enum-told (
   interp-region-below t,
   interp-region.Post,
@@ -1947,7 +1924,7 @@ two-arms-enum-told : (t : ℕ) → two-arms-lts.Need-enum-told (
 ) (two-arms-at t) two-arms.Post
 two-arms-enum-told t c = search needs
 
--- src/lib.rt:694:19
+-- src/lib.rt:720:19
 two-arms-add-t25 : (t : ℕ) → two-arms-lts.Need-add-t25 (
   interp-region-below t,
   interp-region.Post,
@@ -1956,7 +1933,7 @@ two-arms-add-t25 : (t : ℕ) → two-arms-lts.Need-add-t25 (
 ) (two-arms-at t) two-arms.Post
 two-arms-add-t25 t c = let q = Cycle.two-arms-in (c .before .before .before .before .before .before .before .before .before .before .before .before .args .t .now) (c .before .before .before .before .before .before .before .before .before .before .before .before .args .heights .now) (c .before .before .before .before .before .before .before .before .before .before .before .before .args .blinds .now) (c .before .before .before .before .before .before .before .before .before .before .before .before .args .x) (c .before .before .before .before .before .before .before .before .before .before .before .before .args .target) (c .before .before .before .before .before .before .before .before .before .before .before .before .args .ip) (c .before .before .before .before .before .before .before .before .before .before .before .before .args .end) (c .before .before .before .before .before .before .before .before .before .before .before .before .args .floor) _ _ (c .before .before .before .before .before .before .before .before .before .before .before .before .pre .1 .0) (c .before .before .before .before .before .before .before .before .before .before .before .before .pre .1 .1 .0) (c .before .before .before .before .before .before .before .before .before .before .before .before .pre .1 .1 .1) (c .before .before .before .before .before .before .before .before .before .before .before .before .args .closer) (c .before .before .before .before .before .before .before .before .before .before .before .before .pre .1 .1 .2) in omega (arith, q .2, c .before .before .before .before .before .before .before .before .before .before .before .before .fits)
 
--- src/lib.rt:693:9
+-- src/lib.rt:719:9
 two-arms-same-length : (t : ℕ) → two-arms-lts.Need-same-length (
   interp-region-below t,
   interp-region.Post,
@@ -1965,7 +1942,7 @@ two-arms-same-length : (t : ℕ) → two-arms-lts.Need-same-length (
 ) (two-arms-at t) two-arms.Post
 two-arms-same-length t c = search needs
 
--- src/lib.rt:693:9
+-- src/lib.rt:719:9
 two-arms-same-length-2 : (t : ℕ) → two-arms-lts.Need-same-length-2 (
   interp-region-below t,
   interp-region.Post,
@@ -1974,7 +1951,7 @@ two-arms-same-length-2 : (t : ℕ) → two-arms-lts.Need-same-length-2 (
 ) (two-arms-at t) two-arms.Post
 two-arms-same-length-2 t c = search needs
 
--- src/lib.rt:693:9
+-- src/lib.rt:719:9
 two-arms-returns : (t : ℕ) → two-arms-lts.Need-returns (
   interp-region-below t,
   interp-region.Post,
@@ -1983,7 +1960,7 @@ two-arms-returns : (t : ℕ) → two-arms-lts.Need-returns (
 ) (two-arms-at t) two-arms.Post
 two-arms-returns t c = (Cycle.then-refused (c .before .before .before .before .before .before .before .before .before .before .before .before .args .t .now) (c .before .before .before .before .before .before .before .before .before .before .before .before .args .x) (c .before .before .before .before .before .before .before .before .before .before .before .before .args .target) (c .before .before .before .before .before .before .before .before .before .before .before .before .args .ip) (c .before .before .before .before .before .before .before .before .before .before .before .before .args .end) (c .before .before .before .before .before .before .before .before .before .before .before .before .args .floor) (c .before .before .before .before .before .before .before .before .before .before .before .before .args .s) (c .before .before .before .before .before .before .before .before .before .before .before .before .args .b) _ _ (c .before .before .before .before .before .before .interp-region .result) (c .before .before .before .before .before .before .before .before .before .before .before .before .args .closer) (c .before .before .before .before .before .before .before .before .before .before .before .before .pre .1 .1 .2) (c .before .before .before .before .before .before .interp-region .ensures .0) ((c .before .before .before .before .before .before .before .before .before .before .before .before .args .closer) + 1) (c .enum-told .given .1), (let q = Cycle.two-arms-in (c .before .before .before .before .before .before .before .before .before .before .before .before .args .t .now) (c .before .before .before .before .before .before .before .before .before .before .before .before .args .heights .now) (c .before .before .before .before .before .before .before .before .before .before .before .before .args .blinds .now) (c .before .before .before .before .before .before .before .before .before .before .before .before .args .x) (c .before .before .before .before .before .before .before .before .before .before .before .before .args .target) (c .before .before .before .before .before .before .before .before .before .before .before .before .args .ip) (c .before .before .before .before .before .before .before .before .before .before .before .before .args .end) (c .before .before .before .before .before .before .before .before .before .before .before .before .args .floor) _ _ (c .before .before .before .before .before .before .before .before .before .before .before .before .pre .1 .0) (c .before .before .before .before .before .before .before .before .before .before .before .before .pre .1 .1 .0) (c .before .before .before .before .before .before .before .before .before .before .before .before .pre .1 .1 .1) (c .before .before .before .before .before .before .before .before .before .before .before .before .args .closer) (c .before .before .before .before .before .before .before .before .before .before .before .before .pre .1 .1 .2) in (omega (arith, q .0, q .1), omega (arith, q .2), c .before .before .before .before .before .before .interp-region .ensures .1)))
 
--- src/lib.rt:699:9
+-- src/lib.rt:725:9
 two-arms-interp-region-requires-2 : (t : ℕ) → two-arms-lts.Need-interp-region-requires-2 (
   interp-region-below t,
   interp-region.Post,
@@ -1992,7 +1969,7 @@ two-arms-interp-region-requires-2 : (t : ℕ) → two-arms-lts.Need-interp-regio
 ) (two-arms-at t) two-arms.Post
 two-arms-interp-region-requires-2 t c κs = let q = Cycle.two-arms-in (c .before .before .before .before .before .before .before .before .before .before .before .before .before .before .args .t .now) (c .before .before .before .before .before .before .before .before .before .before .before .before .before .before .args .heights .now) (c .before .before .before .before .before .before .before .before .before .before .before .before .before .before .args .blinds .now) (c .before .before .before .before .before .before .before .before .before .before .before .before .before .before .args .x) (c .before .before .before .before .before .before .before .before .before .before .before .before .before .before .args .target) (c .before .before .before .before .before .before .before .before .before .before .before .before .before .before .args .ip) (c .before .before .before .before .before .before .before .before .before .before .before .before .before .before .args .end) (c .before .before .before .before .before .before .before .before .before .before .before .before .before .before .args .floor) _ _ (c .before .before .before .before .before .before .before .before .before .before .before .before .before .before .pre .1 .0) (c .before .before .before .before .before .before .before .before .before .before .before .before .before .before .pre .1 .1 .0) (c .before .before .before .before .before .before .before .before .before .before .before .before .before .before .pre .1 .1 .1) (c .before .before .before .before .before .before .before .before .before .before .before .before .before .before .args .closer) (c .before .before .before .before .before .before .before .before .before .before .before .before .before .before .pre .1 .1 .2) in (omega (arith, q .0, q .1, q .2, c .before .before .before .before .before .before .before .before .before .before .before .before .before .before .pre .0), record { placed = Cycle.placed-by (c .before .before .before .before .before .before .before .before .before .before .before .before .before .before .args .t .now) (c .before .before .before .before .before .before .before .before .before .before .before .before .before .before .args .heights .now) (c .before .before .before .before .before .before .before .before .before .before .before .before .before .before .args .blinds .now) _ _ (c .before .before .before .before .before .before .before .before .before .before .before .before .before .before .args .x) (c .before .before .before .before .before .before .before .before .interp-region .kept .1 .0) (c .before .before .before .before .before .before .before .before .interp-region .kept .1 .1 .0) (c .before .before .before .before .before .before .before .before .before .before .before .before .before .before .pre .1 .0 .placed); from = c .before .before .before .before .before .before .before .before .before .before .before .before .before .before .args .target; arm = q .4; after = omega arith; before = q .1; floor-low = c .before .before .before .before .before .before .before .before .before .before .before .before .before .before .pre .1 .0 .floor-low; height-low = c .before .before .before .before .before .before .before .before .before .before .before .before .before .before .pre .1 .0 .height-low; breaks-low = c .before .before .before .before .before .before .before .before .interp-region .ensures .1 .1 })
 
--- src/lib.rt:703:19
+-- src/lib.rt:729:19
 two-arms-enum-told-2 : (t : ℕ) → two-arms-lts.Need-enum-told-2 (
   interp-region-below t,
   interp-region.Post,
@@ -2001,7 +1978,7 @@ two-arms-enum-told-2 : (t : ℕ) → two-arms-lts.Need-enum-told-2 (
 ) (two-arms-at t) two-arms.Post
 two-arms-enum-told-2 t c = search needs
 
--- src/lib.rt:703:19
+-- src/lib.rt:729:19
 two-arms-add-t30 : (t : ℕ) → two-arms-lts.Need-add-t30 (
   interp-region-below t,
   interp-region.Post,
@@ -2010,7 +1987,7 @@ two-arms-add-t30 : (t : ℕ) → two-arms-lts.Need-add-t30 (
 ) (two-arms-at t) two-arms.Post
 two-arms-add-t30 t c = let q = Cycle.two-arms-in (c .before .before .before .before .before .before .before .before .before .before .before .before .before .before .before .before .before .before .before .before .before .args .t .now) (c .before .before .before .before .before .before .before .before .before .before .before .before .before .before .before .before .before .before .before .before .before .args .heights .now) (c .before .before .before .before .before .before .before .before .before .before .before .before .before .before .before .before .before .before .before .before .before .args .blinds .now) (c .before .before .before .before .before .before .before .before .before .before .before .before .before .before .before .before .before .before .before .before .before .args .x) (c .before .before .before .before .before .before .before .before .before .before .before .before .before .before .before .before .before .before .before .before .before .args .target) (c .before .before .before .before .before .before .before .before .before .before .before .before .before .before .before .before .before .before .before .before .before .args .ip) (c .before .before .before .before .before .before .before .before .before .before .before .before .before .before .before .before .before .before .before .before .before .args .end) (c .before .before .before .before .before .before .before .before .before .before .before .before .before .before .before .before .before .before .before .before .before .args .floor) _ _ (c .before .before .before .before .before .before .before .before .before .before .before .before .before .before .before .before .before .before .before .before .before .pre .1 .0) (c .before .before .before .before .before .before .before .before .before .before .before .before .before .before .before .before .before .before .before .before .before .pre .1 .1 .0) (c .before .before .before .before .before .before .before .before .before .before .before .before .before .before .before .before .before .before .before .before .before .pre .1 .1 .1) (c .before .before .before .before .before .before .before .before .before .before .before .before .before .before .before .before .before .before .before .before .before .args .closer) (c .before .before .before .before .before .before .before .before .before .before .before .before .before .before .before .before .before .before .before .before .before .pre .1 .1 .2) in omega (arith, q .2, c .before .before .before .before .before .before .before .before .before .before .before .before .before .before .before .before .before .before .before .before .before .fits)
 
--- src/lib.rt:702:9
+-- src/lib.rt:728:9
 two-arms-same-length-3 : (t : ℕ) → two-arms-lts.Need-same-length-3 (
   interp-region-below t,
   interp-region.Post,
@@ -2019,7 +1996,7 @@ two-arms-same-length-3 : (t : ℕ) → two-arms-lts.Need-same-length-3 (
 ) (two-arms-at t) two-arms.Post
 two-arms-same-length-3 t c = search needs
 
--- src/lib.rt:702:9
+-- src/lib.rt:728:9
 two-arms-same-length-4 : (t : ℕ) → two-arms-lts.Need-same-length-4 (
   interp-region-below t,
   interp-region.Post,
@@ -2028,7 +2005,7 @@ two-arms-same-length-4 : (t : ℕ) → two-arms-lts.Need-same-length-4 (
 ) (two-arms-at t) two-arms.Post
 two-arms-same-length-4 t c = search needs
 
--- src/lib.rt:702:9
+-- src/lib.rt:728:9
 two-arms-returns-2 : (t : ℕ) → two-arms-lts.Need-returns-2 (
   interp-region-below t,
   interp-region.Post,
@@ -2037,7 +2014,7 @@ two-arms-returns-2 : (t : ℕ) → two-arms-lts.Need-returns-2 (
 ) (two-arms-at t) two-arms.Post
 two-arms-returns-2 t c = (Cycle.else-refused (c .before .before .before .before .before .before .before .before .before .before .before .before .before .before .before .before .before .before .before .before .before .args .t .now) (c .before .before .before .before .before .before .before .before .before .before .before .before .before .before .before .before .before .before .before .before .before .args .x) (c .before .before .before .before .before .before .before .before .before .before .before .before .before .before .before .before .before .before .before .before .before .args .target) (c .before .before .before .before .before .before .before .before .before .before .before .before .before .before .before .before .before .before .before .before .before .args .ip) (c .before .before .before .before .before .before .before .before .before .before .before .before .before .before .before .before .before .before .before .before .before .args .end) (c .before .before .before .before .before .before .before .before .before .before .before .before .before .before .before .before .before .before .before .before .before .args .floor) (c .before .before .before .before .before .before .before .before .before .before .before .before .before .before .before .before .before .before .before .before .before .args .s) (c .before .before .before .before .before .before .before .before .before .before .before .before .before .before .before .before .before .before .before .before .before .args .b) _ _ (c .before .before .before .before .before .before .before .before .before .before .before .before .before .before .before .interp-region .result) (c .before .before .before .before .before .before .before .before .before .before .before .before .before .before .before .before .before .before .before .before .before .args .closer) (c .before .before .before .before .before .before .before .before .before .before .before .before .before .before .before .before .before .before .before .before .before .pre .1 .1 .2) (c .before .before .before .before .before .before .before .before .before .before .before .before .before .before .before .interp-region .ensures .0) (Laws.open-by (c .before .before .before .before .before .before .before .before .before .before .before .before .before .before .before .interp-region .result .flow) (c .before .before .before .before .before .before .before .before .before .before .match .keys2)) (c .before .before .before .before .before .before .interp-region2 .result) _ (c .before .before .before .before .before .before .interp-region2 .ensures .0) ((c .before .before .before .before .before .before .before .before .before .before .before .before .before .before .before .before .before .before .before .before .before .args .closer) + 1) (c .enum-told2 .given .1), (let q = Cycle.two-arms-in (c .before .before .before .before .before .before .before .before .before .before .before .before .before .before .before .before .before .before .before .before .before .args .t .now) (c .before .before .before .before .before .before .before .before .before .before .before .before .before .before .before .before .before .before .before .before .before .args .heights .now) (c .before .before .before .before .before .before .before .before .before .before .before .before .before .before .before .before .before .before .before .before .before .args .blinds .now) (c .before .before .before .before .before .before .before .before .before .before .before .before .before .before .before .before .before .before .before .before .before .args .x) (c .before .before .before .before .before .before .before .before .before .before .before .before .before .before .before .before .before .before .before .before .before .args .target) (c .before .before .before .before .before .before .before .before .before .before .before .before .before .before .before .before .before .before .before .before .before .args .ip) (c .before .before .before .before .before .before .before .before .before .before .before .before .before .before .before .before .before .before .before .before .before .args .end) (c .before .before .before .before .before .before .before .before .before .before .before .before .before .before .before .before .before .before .before .before .before .args .floor) _ _ (c .before .before .before .before .before .before .before .before .before .before .before .before .before .before .before .before .before .before .before .before .before .pre .1 .0) (c .before .before .before .before .before .before .before .before .before .before .before .before .before .before .before .before .before .before .before .before .before .pre .1 .1 .0) (c .before .before .before .before .before .before .before .before .before .before .before .before .before .before .before .before .before .before .before .before .before .pre .1 .1 .1) (c .before .before .before .before .before .before .before .before .before .before .before .before .before .before .before .before .before .before .before .before .before .args .closer) (c .before .before .before .before .before .before .before .before .before .before .before .before .before .before .before .before .before .before .before .before .before .pre .1 .1 .2) in (omega (arith, q .0, q .1), omega (arith, q .2), c .before .before .before .before .before .before .interp-region2 .ensures .1)))
 
--- src/lib.rt:707:9
+-- src/lib.rt:733:9
 two-arms-join-ends-requires : (t : ℕ) → two-arms-lts.Need-join-ends-requires (
   interp-region-below t,
   interp-region.Post,
@@ -2046,7 +2023,7 @@ two-arms-join-ends-requires : (t : ℕ) → two-arms-lts.Need-join-ends-requires
 ) (two-arms-at t) two-arms.Post
 two-arms-join-ends-requires t c κs = (c .before .before .before .before .before .before .before .before .before .before .before .before .before .before .interp-region .ensures .1 .0, c .before .before .before .before .before .interp-region2 .ensures .1 .0, c .before .before .before .before .before .interp-region2 .ensures .1 .1, omega (arith, c .before .before .before .before .before .before .before .before .before .before .before .before .before .before .before .before .before .before .before .before .pre .1 .0 .placed .of .locals, locals-low (c .before .before .before .before .before .before .before .before .before .before .before .before .before .before .before .before .before .before .before .before .args .t .now) (c .before .before .before .before .before .before .before .before .before .before .before .before .before .before .before .before .before .before .before .before .args .x .chunk)), (Laws.open-by (c .before .before .before .before .before .before .before .before .before .before .before .before .before .before .interp-region .result .flow) (c .before .before .before .before .before .before .before .before .before .match .keys2)), (Laws.open-by (c .before .before .before .before .before .interp-region2 .result .flow) (c .match2 .keys2)))
 
--- src/lib.rt:709:15
+-- src/lib.rt:735:15
 two-arms-add-t23 : (t : ℕ) → two-arms-lts.Need-add-t23 (
   interp-region-below t,
   interp-region.Post,
@@ -2055,7 +2032,7 @@ two-arms-add-t23 : (t : ℕ) → two-arms-lts.Need-add-t23 (
 ) (two-arms-at t) two-arms.Post
 two-arms-add-t23 t c = let q = Cycle.two-arms-in (c .before .before .before .before .before .before .before .before .before .before .before .before .before .before .before .before .before .before .before .before .before .args .t .now) (c .before .before .before .before .before .before .before .before .before .before .before .before .before .before .before .before .before .before .before .before .before .args .heights .now) (c .before .before .before .before .before .before .before .before .before .before .before .before .before .before .before .before .before .before .before .before .before .args .blinds .now) (c .before .before .before .before .before .before .before .before .before .before .before .before .before .before .before .before .before .before .before .before .before .args .x) (c .before .before .before .before .before .before .before .before .before .before .before .before .before .before .before .before .before .before .before .before .before .args .target) (c .before .before .before .before .before .before .before .before .before .before .before .before .before .before .before .before .before .before .before .before .before .args .ip) (c .before .before .before .before .before .before .before .before .before .before .before .before .before .before .before .before .before .before .before .before .before .args .end) (c .before .before .before .before .before .before .before .before .before .before .before .before .before .before .before .before .before .before .before .before .before .args .floor) _ _ (c .before .before .before .before .before .before .before .before .before .before .before .before .before .before .before .before .before .before .before .before .before .pre .1 .0) (c .before .before .before .before .before .before .before .before .before .before .before .before .before .before .before .before .before .before .before .before .before .pre .1 .1 .0) (c .before .before .before .before .before .before .before .before .before .before .before .before .before .before .before .before .before .before .before .before .before .pre .1 .1 .1) (c .before .before .before .before .before .before .before .before .before .before .before .before .before .before .before .before .before .before .before .before .before .args .closer) (c .before .before .before .before .before .before .before .before .before .before .before .before .before .before .before .before .before .before .before .before .before .pre .1 .1 .2) in omega (arith, q .2, c .before .before .before .before .before .before .before .before .before .before .before .before .before .before .before .before .before .before .before .before .before .fits)
 
--- src/lib.rt:672:1
+-- src/lib.rt:698:1
 two-arms-same-length-5 : (t : ℕ) → two-arms-lts.Need-same-length-5 (
   interp-region-below t,
   interp-region.Post,
@@ -2064,7 +2041,7 @@ two-arms-same-length-5 : (t : ℕ) → two-arms-lts.Need-same-length-5 (
 ) (two-arms-at t) two-arms.Post
 two-arms-same-length-5 t c = search needs
 
--- src/lib.rt:672:1
+-- src/lib.rt:698:1
 two-arms-same-length-6 : (t : ℕ) → two-arms-lts.Need-same-length-6 (
   interp-region-below t,
   interp-region.Post,
@@ -2073,7 +2050,7 @@ two-arms-same-length-6 : (t : ℕ) → two-arms-lts.Need-same-length-6 (
 ) (two-arms-at t) two-arms.Post
 two-arms-same-length-6 t c = search needs
 
--- src/lib.rt:672:1
+-- src/lib.rt:698:1
 two-arms-returns-3 : (t : ℕ) → two-arms-lts.Need-returns-3 (
   interp-region-below t,
   interp-region.Post,
@@ -2227,20 +2204,18 @@ pub +arms-at+block-at+if-at+interp-region+last-pass+loop-at+one-arm+passes-at+tw
       mark-height-reads.Learnt,
       passes-at-below t,
       passes-at.Post,
+      onward-after-reads.Asked,
+      onward-after-reads.Learnt,
     )
     (loop-at-at t)
     loop-at.Post
     (loop-at-add-mark-height t)
     (loop-at-mark-height-requires t)
     (loop-at-passes-at-requires t)
-    (loop-at-enum-known-f t)
-    (loop-at-enum-told t)
+    (loop-at-onward-after-requires t)
     (loop-at-same-length t)
     (loop-at-same-length-2 t)
-    (loop-at-returns t)
-    (loop-at-same-length-3 t)
-    (loop-at-same-length-4 t)
-    (loop-at-returns-2 t))
+    (loop-at-returns t))
     (λ t. one-arm-lts.spec (
       interp-region-below t,
       interp-region.Post,
