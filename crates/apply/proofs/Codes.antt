@@ -18,7 +18,7 @@ use Rattle.definition.specs.Instructions.{Yield, Native}
 use Rattle.definition.specs.Shapes.{Shape as AnyShape, unknown}
 use Rattle.definition.specs.Tests.{reading, is-blind, is-unknown}
 use Rattle.definition.specs.Ops.{ops, row, instr, instr-of, make-at}
-use Rattle.definition.specs.Effects.{need, takes, net, pushes, effect}
+use Rattle.definition.specs.Effects.{need, takes, net, pushes, effect, shaped-need}
 use Rattle.definition.specs.Walk.{State as AnyState}
 use Rattle.bytecode.specs.Meaning.{maxima-of}
 use Rattle.bytecode.specs.Parts.{instrOf}
@@ -26,6 +26,9 @@ use Rattle.bytecode.specs.declared.Instr.{Instr}
 use Rattle.apply.specs.declared.Rule.{Rule}
 use Rattle.apply.specs.Answers.{Within}
 use Rattle.apply.specs.Rules.{Rules, is-generic}
+use Rattle.apply.specs.Changes.{Looks}
+use Rattle.shapes.specs.declared.State.{State}
+use Rattle.shapes.specs.Model.{stackOf}
 
 module _ (i : Instr) where
   abbrev at : ℕ → AnyInstr
@@ -179,6 +182,46 @@ module _ (i : Instr) where
   pub local-need : (c : Chunk) → i .code ≡ 5 → need c (instrOf i) ≡ 1
   unfolding need instr instr-of ops row make-at
   local-need c e = ap (need c) (code-at 5 e)
+
+  -- what is looked at is there, where there are as many operands as are needed
+  module _ (c : Chunk) (n locals : ℕ) (s : State) (v : AnyShape) (L : Looks (i .code) (i .a) locals s v) (hn : n ≡ need c (instrOf i)) (h : n ≤ s .height) where
+    top-of : (k : ℕ) → i .code ≡ k → (k ≡ 1 → ⊥) → (k ≡ 10 → ⊥) → (k ≡ 11 → ⊥) → need c (at k) ≡ 1 → v ≡ getD (stackOf s) 0 unknown
+    top-of k e x y z f =
+        let m : n ≡ 1 = hn ∙ ap (need c) (code-at k e) ∙ f in
+        L .top (λ q. x (sym e ∙ q)) (λ q. y (sym e ∙ q)) (λ q. z (sym e ∙ q)) (omega arith)
+
+    under-of : (k : ℕ) → i .code ≡ k → (i .code ≡ 10) ⊎ (i .code ≡ 11) → need c (at k) ≡ 2 → v ≡ getD (stackOf s) 1 unknown
+    under-of k e d f =
+        let m : n ≡ 2 = hn ∙ ap (need c) (code-at k e) ∙ f in
+        L .under d (omega arith)
+
+    pub looks-dup : i .code ≡ 4 → v ≡ getD (stackOf s) 0 unknown
+    unfolding need shaped-need instr instr-of ops row make-at
+    looks-dup e = top-of 4 e (λ q. omega arith) (λ q. omega arith) (λ q. omega arith) refl
+
+    pub looks-stored : i .code ≡ 5 → v ≡ getD (stackOf s) 0 unknown
+    unfolding need instr instr-of ops row make-at
+    looks-stored e = top-of 5 e (λ q. omega arith) (λ q. omega arith) (λ q. omega arith) refl
+
+    pub looks-index : i .code ≡ 10 → v ≡ getD (stackOf s) 1 unknown
+    unfolding need instr instr-of ops row make-at
+    looks-index e = under-of 10 e (inl e) refl
+
+    pub looks-part : i .code ≡ 11 → v ≡ getD (stackOf s) 1 unknown
+    unfolding need instr instr-of ops row make-at
+    looks-part e = under-of 11 e (inr e) refl
+
+    pub looks-flat : (i .code ≡ 36) ⊎ ((i .code ≡ 39) ⊎ (i .code ≡ 42)) → v ≡ getD (stackOf s) 0 unknown
+    unfolding need instr instr-of ops row make-at
+    looks-flat e =
+        ⊎-elim (λ k. top-of 36 k (λ q. omega arith) (λ q. omega arith) (λ q. omega arith) refl)
+        (λ d. ⊎-elim (λ k. top-of 39 k (λ q. omega arith) (λ q. omega arith) (λ q. omega arith) refl) (λ k. top-of 42 k (λ q. omega arith) (λ q. omega arith) (λ q. omega arith) refl) d) e
+
+    pub looks-nested : (i .code ≡ 37) ⊎ ((i .code ≡ 40) ⊎ (i .code ≡ 43)) → v ≡ getD (stackOf s) 0 unknown
+    unfolding need instr instr-of ops row make-at
+    looks-nested e =
+        ⊎-elim (λ k. top-of 37 k (λ q. omega arith) (λ q. omega arith) (λ q. omega arith) refl)
+        (λ d. ⊎-elim (λ k. top-of 40 k (λ q. omega arith) (λ q. omega arith) (λ q. omega arith) refl) (λ k. top-of 43 k (λ q. omega arith) (λ q. omega arith) (λ q. omega arith) refl) d) e
 
 -- ── Names that push unknowns ──────────────────────────────────────────────────────────────
 

@@ -20,7 +20,6 @@ use Rattle.apply.specs.declared.Verdict.the-variants.{Passed, Limit, Sta
 use Rattle.apply.specs.declared.Verdict.the-variants.{TextFieldMismatch, BranchHeightMismatch, LoopNotNeutral, LoopFloorBreach, LocalTypeMismatch}
 use Rattle.apply.specs.declared.Verdict.the-variants.{CallArgMismatch, ArrayStrideMismatch, EnumBodySizeMismatch}
 use Rattle.apply.specs.declared.Step.{Step}
-use Rattle.apply.specs.declared.Seen.{Seen}
 use Rattle.apply.specs.declared.Ctx.{Ctx}
 
 -- 01's number and values of each refusal; the chunk's number is not among them yet
@@ -73,7 +72,3 @@ pub record Examined (t : List ℕ) (x : Ctx) (i : Instr) (ip floor : ℕ) (s : S
   pub result : resultOf (x .locals) r ≡ examine (chunkOf t (x .chunk)) ip floor (instrOf i) (stateOf (x .locals) s)
   pub blind : r .blind ≡ is-blind (reading (chunkOf t (x .chunk)) (instrOf i)) (stackOf s)
   pub low : r .state .height ≤ 64
-
--- what is seen of an examination, with the state that it leaves
-abbrev pub seenWith : Seen → State → Step
-seenWith r s = record { verdict = r .verdict; blind = r .blind; state = s }

@@ -30,8 +30,9 @@ ghost use Rattle.value_layout.specs.Sizes.{Wide};
 ghost use Rattle.bytecode.specs.Meaning.{chunkOf, sigsOf, nativesOf, enum-sizesOf};
 ghost use Rattle.bytecode.specs.Parts.{declared-shape, constant-of, instrOf, Effect-is};
 ghost use Rattle.shapes.specs.Text.{Means};
-ghost use Rattle.shapes.specs.Model.{valueOf, plainOf, stateOf, stackOf, placesOf, shapeOf};
-ghost use Rattle.apply.specs.Answers.{refusal, is-none, resultOf, Of, Within, Examined, seenWith};
+ghost use Rattle.shapes.specs.Model.{valueOf, valueAt, plainOf, stateOf, stackOf, localsOf, placesOf, shapeOf};
+ghost use Rattle.apply.specs.Answers.{refusal, is-none, resultOf, Of, Within, Examined};
+ghost use Rattle.apply.specs.Changes.{Looks, unchangedOf, changedOf, Adds, Moved, Changes};
 ghost use Rattle.apply.specs.Rules.{Otherwise, Rules, Roomed, Body, Stepped, passingOf, refusingOf, is-generic};
 
 // What an examination says: passed, or a refusal of the walk with the Rust's fields.
@@ -179,22 +180,6 @@ fn constant(t: &[u64], chunk: usize, k: u32) -> Rule
 {
     let c = bytecode::constant_at(t, chunk, index(k));
     let v = const_abs(c);
-    passing(0, v, 1, 0)
-}
-
-fn get_local(s: State, k: u32, locals: usize) -> Rule
-    requires { ⌜ locals ≤ 32 ⌝ }
-    ensures { λ r. ⌜ ((c : Chunk) (ip : ℕ) → Rules c ip (shaped (GetLocal k)) (stateOf locals s) r) ⌝ }
-{
-    let v = s.get_local(index(k), locals);
-    passing(0, v, 1, 0)
-}
-
-fn dup(s: State) -> Rule
-    requires { ⌜ s .height ≤ 64 ⌝ }
-    ensures { λ r. ⌜ ((c : Chunk) (ip locals : ℕ) → Rules c ip (shaped Dup) (stateOf locals s) r) ⌝ }
-{
-    let v = s.operand(0);
     passing(0, v, 1, 0)
 }
 
@@ -737,34 +722,99 @@ fn check_room(r: Rule, height: usize, ip: usize) -> Verdict
 
 // ---- one instruction
 
+// The slot that an instruction looks at, if it looks at one: a local, the operand under the top one, or the top one. Where there is none it is slot 0.
+pub fn looks_at(code: u8, a: u32, height: usize, locals: usize) -> usize
+    requires { ⌜ (height ≤ 64) × (locals ≤ 32) ⌝ }
+    ensures { λ r. ⌜ (r < 96) × ((s : State) → s .height ≡ height → Looks code a locals s (valueAt (s .slots) (s .places) r)) ⌝ }
+{
+    if code == 1 {
+        return local_slot(a, locals);
+    }
+    if code == 10 {
+        return operand_slot(height, 2);
+    }
+    if code == 11 {
+        return operand_slot(height, 2);
+    }
+    operand_slot(height, 1)
+}
+
+fn local_slot(a: u32, locals: usize) -> usize
+    requires { ⌜ locals ≤ 32 ⌝ }
+    ensures { λ r. ⌜ (r < 96) × (a < locals → r ≡ 64 + a) ⌝ }
+{
+    let i = index(a);
+    if i < locals { 64 + i } else { 0 }
+}
+
+// The slot of the n-th operand from above.
+fn operand_slot(height: usize, n: usize) -> usize
+    requires { ⌜ (height ≤ 64) × (1 ≤ n) ⌝ }
+    ensures { λ r. ⌜ (r < 96) × (n ≤ height → r ≡ height - n) ⌝ }
+{
+    if n <= height { height - n } else { 0 }
+}
+
+// A local of so many, where v is that local if there is one.
+fn get_local(v: Value, k: u32, locals: usize) -> Rule
+    ensures { λ r. ⌜ ((c : Chunk) (ip : ℕ) (s : State) → (k < locals → valueOf v ≡ getD (localsOf locals s) k unknown) → Rules c ip (shaped (GetLocal k)) (stateOf locals s) r) ⌝ }
+{
+    if index(k) < locals {
+        return passing(0, v, 1, 0);
+    }
+    let u = shapes::unknown_value();
+    passing(0, u, 1, 0)
+}
+
+fn dup(v: Value) -> Rule
+    ensures { λ r. ⌜ ((c : Chunk) (ip : ℕ) (s : AnyState) → valueOf v ≡ getD (s .stack) 0 unknown → Rules c ip (shaped Dup) s r) ⌝ }
+{
+    passing(0, v, 1, 0)
+}
+
+// The rule of every name but SetLocal, Call and NewComposite Flat, where v is what it looks at.
+fn rule_by(t: &[u64], x: Ctx, i: Instr, e: Effect, v: Value, ip: usize) -> Rule
+    requires { ⌜ Of (now t) (x .chunk) x ⌝ }
+    requires { ⌜ Within i × (i .code ≡ 5 → ⊥) × (i .code ≡ 49 → ⊥) × (i .code ≡ 52 → ⊥) × Effect-is i (x .«index_trap») (x .«host_trap») e ⌝ }
+    ensures { λ r. ⌜ ((s : State) → Looks (i .code) (i .a) (x .locals) s (valueOf v) → e .need ≤ s .height → s .height ≤ 64 → Rules (chunkOf (now (t .entry)) (x .chunk)) ip (instrOf i) (stateOf (x .locals) s) r) ⌝ }
+{
+    let code = i.code;
+    let w = x.widths;
+    match code {
+        0 => constant(t, x.chunk, i.a),
+        1 => get_local(v, i.a, x.locals),
+        4 => dup(v),
+        7 | 12 => unknown_element(),
+        8 => set_data_indexed(),
+        9 => bounds_check(),
+        10 => get_index(v, i.a as u8, w, ip),
+        11 => get_index_nested(v, i.a, i.b as u8, ip),
+        36 | 39 | 42 => get_flat(v, i.a, i.b as u8, w, ip),
+        37 | 40 | 43 => get_flat_nested(v, i.a, i.b, i.c as u8, ip),
+        46 => yields(t, x.chunk),
+        47 => is_instance(),
+        48 => is_instance(),
+        50 => native(t, i.a, i.b),
+        51 => native(t, i.a, i.b),
+        _ => generic(e),
+    }
+}
+
 // The rule of every name but SetLocal.
 fn rule_of(t: &[u64], x: Ctx, i: Instr, e: Effect, s: State, ip: usize) -> Rule
     requires { ⌜ Of (now t) (x .chunk) x ⌝ }
     requires { ⌜ Within i × (i .code ≡ 5 → ⊥) × Effect-is i (x .«index_trap») (x .«host_trap») e × (e .need ≤ s .height) × (s .height ≤ 64) ⌝ }
     ensures { λ r. ⌜ Rules (chunkOf (now (t .entry)) (x .chunk)) ip (instrOf i) (stateOf (x .locals) s) r ⌝ }
 {
-    let code = i.code;
-    let w = x.widths;
-    match code {
-        0 => constant(t, x.chunk, i.a),
-        1 => get_local(s, i.a, x.locals),
-        4 => dup(s),
-        7 | 12 => unknown_element(),
-        8 => set_data_indexed(),
-        9 => bounds_check(),
-        10 => get_index(s.operand(1), i.a as u8, w, ip),
-        11 => get_index_nested(s.operand(1), i.a, i.b as u8, ip),
-        36 | 39 | 42 => get_flat(s.operand(0), i.a, i.b as u8, w, ip),
-        37 | 40 | 43 => get_flat_nested(s.operand(0), i.a, i.b, i.c as u8, ip),
-        46 => yields(t, x.chunk),
-        47 => is_instance(),
-        48 => is_instance(),
-        49 => call(t, s, i.a, index(i.b), ip),
-        50 => native(t, i.a, i.b),
-        51 => native(t, i.a, i.b),
-        52 => new_flat(t, s, i.a as u8, index(i.b), i.c, w, ip),
-        _ => generic(e),
+    if i.code == 49 {
+        return call(t, s, i.a, index(i.b), ip);
     }
+    if i.code == 52 {
+        return new_flat(t, s, i.a as u8, index(i.b), i.c, x.widths, ip);
+    }
+    let k = looks_at(i.code, i.a, s.height, x.locals);
+    let v = s.read(k);
+    rule_by(t, x, i, e, v, ip)
 }
 
 fn is_unknown(v: Value) -> bool
@@ -807,7 +857,7 @@ fn check_floor(height: usize, need: usize, floor: usize, ip: usize) -> Verdict
 }
 
 // 12 and 5, before every rule.
-fn check_need(height: usize, need: usize, floor: usize, ip: usize) -> Verdict
+pub fn check_need(height: usize, need: usize, floor: usize, ip: usize) -> Verdict
     requires { ⌜ (floor ≤ 64) × (need < 4294967296) ⌝ }
     ensures { λ r. ⌜ (refusal r ≡ first (floor-test ip floor height need) (need-test ip height need)) × (refusal r ≡ none → need ≤ height) ⌝ }
 {
@@ -867,35 +917,170 @@ pub fn examine(t: &[u64], x: Ctx, i: Instr, ip: usize, floor: usize, s: State) -
     }
 }
 
-// What an examination says, beside the state that it leaves.
-pub struct Seen {
+// ---- one instruction in place
+
+// What an examination changes: slot `at` becomes the value, the `more` slots above it become `extra`, and the height is set. Where `whole` is true it says
+// nothing, and the instruction is to be examined with the whole state.
+pub struct Change {
+    pub whole: bool,
     pub verdict: Verdict,
     pub blind: bool,
+    pub at: usize,
+    pub value: Value,
+    pub more: usize,
+    pub extra: Shape,
+    pub height: usize,
 }
 
-// The thin step of one instruction: the state is lent, and what the examination leaves is stored in it.
-pub fn step_lent(s: &mut State, t: &[u64], x: Ctx, i: Instr, ip: usize, floor: usize) -> Seen
-    requires { ⌜ Of (now t) (x .chunk) x × Within i × (floor ≤ 64) × (now s .height ≤ 64) ⌝ }
-    ensures { λ r. ⌜ Examined (now (t .entry)) x i ip floor (now (s .entry)) (seenWith r (now (s .exit))) ⌝ }
+// No change: the instruction is refused, or needs the whole state.
+fn unchanged(whole: bool, verdict: Verdict, blind: bool, v: Value, height: usize) -> Change
+    ensures { λ r. ⌜ r ≡ unchangedOf whole verdict blind v height ⌝ }
 {
-    let r = examine(t, x, i, ip, floor, *s);
-    *s = r.state;
-    Seen {
-        verdict: r.verdict,
-        blind: r.blind,
+    Change {
+        whole: whole,
+        verdict: verdict,
+        blind: blind,
+        at: 0,
+        value: v,
+        more: 0,
+        extra: Shape::Unknown,
+        height: height,
     }
 }
 
-// The same of a state by value. The walk calls this one: a function that lends a state is proved by hand, and one that calls this is not.
-pub fn step_value(t: &[u64], x: Ctx, i: Instr, ip: usize, floor: usize, before: State) -> Step
-    requires { ⌜ Of (now t) (x .chunk) x × Within i × (floor ≤ 64) × (before .height ≤ 64) ⌝ }
-    ensures { λ r. ⌜ Examined (now (t .entry)) x i ip floor before r ⌝ }
+fn changed(blind: bool, at: usize, v: Value, more: usize, extra: Shape, height: usize) -> Change
+    ensures { λ r. ⌜ r ≡ changedOf blind at v more extra height ⌝ }
 {
-    let mut s = before;
-    let r = step_lent(&mut s, t, x, i, ip, floor);
-    Step {
-        verdict: r.verdict,
-        blind: r.blind,
-        state: s,
+    Change {
+        whole: false,
+        verdict: Verdict::Passed,
+        blind: blind,
+        at: at,
+        value: v,
+        more: more,
+        extra: extra,
+        height: height,
     }
+}
+
+// Nothing is pushed but numbers of kind 3. Where nothing at all is pushed, the slot that is written lies above the operands.
+fn push_ints(blind: bool, take: usize, v: Value, ints: usize, height: usize) -> Change
+    requires { ⌜ (take ≤ height) × (height ≤ 64) × (height - take + ints ≤ 64) ⌝ }
+    ensures { λ q. ⌜ Adds blind take (valueOf v) 0 ints height q ⌝ }
+{
+    let at = height - take;
+    if 0 < ints {
+        let int = shapes::scalar_value(3);
+        return changed(blind, at, int, ints - 1, Shape::Scalar(3), at + ints);
+    }
+    if at < 64 {
+        return changed(blind, at, v, 0, Shape::Unknown, at);
+    }
+    unchanged(true, Verdict::Passed, blind, v, height)
+}
+
+// A value is pushed more than once, which is done in place only for unknowns.
+fn push_unknowns(
+    blind: bool,
+    take: usize,
+    v: Value,
+    times: usize,
+    ints: usize,
+    height: usize,
+) -> Change
+    requires { ⌜ (take ≤ height) × (height ≤ 64) × (height - take + times + ints ≤ 64) × (1 ≤ times) ⌝ }
+    ensures { λ q. ⌜ Adds blind take (valueOf v) times ints height q ⌝ }
+{
+    let shape = v.shape;
+    let Shape::Unknown = shape else {
+        return unchanged(true, Verdict::Passed, blind, v, height);
+    };
+    if ints == 0 {
+        let at = height - take;
+        return changed(blind, at, v, times - 1, Shape::Unknown, at + times);
+    }
+    unchanged(true, Verdict::Passed, blind, v, height)
+}
+
+// The change of a rule on so many operands.
+fn change_by(r: Rule, height: usize, ip: usize) -> Change
+    requires { ⌜ (refusal (r .verdict) ≡ none → r .take ≤ height) × (height ≤ 64) ⌝ }
+    ensures { λ q. ⌜ ((c : Chunk) (locals : ℕ) (i : AnyInstr) → locals ≤ 32 → Moved c locals ip i height (λ s. Rules c ip i (stateOf locals s) r) q) ⌝ }
+{
+    let verdict = check_room(r, height, ip);
+    let v = r.value;
+    if verdict.passed() {} else {
+        return unchanged(false, verdict, r.blind, v, height);
+    }
+    let take = r.take;
+    let times = count(r.times);
+    let ints = count(r.ints);
+    if times == 0 {
+        return push_ints(r.blind, take, v, ints, height);
+    }
+    if times == 1 {
+        let at = height - take;
+        return changed(r.blind, at, v, ints, Shape::Scalar(3), at + 1 + ints);
+    }
+    push_unknowns(r.blind, take, v, times, ints, height)
+}
+
+// SetLocal of the top operand v. A local outside the frame is not written: the slot that is written then lies above the operands.
+fn change_local(t: &[u64], x: Ctx, k: u32, v: Value, height: usize, ip: usize) -> Change
+    requires { ⌜ Of (now t) (x .chunk) x ⌝ }
+    requires { ⌜ (1 ≤ height) × (height ≤ 64) ⌝ }
+    ensures { λ q. ⌜ Moved (chunkOf (now (t .entry)) (x .chunk)) (x .locals) ip (SetLocal k) height (λ s. valueOf v ≡ getD (stackOf s) 0 unknown) q ⌝ }
+{
+    let shape = v.shape;
+    let i = index(k);
+    let declared = from_wire(bytecode::sig_param(t, x.chunk, i));
+    if shapes_compatible(shape, declared) {} else {
+        return unchanged(
+            false,
+            Verdict::LocalTypeMismatch(ip, wide(k)),
+            false,
+            v,
+            height,
+        );
+    }
+    if i < x.locals {
+        return changed(false, 64 + i, v, 0, Shape::Unknown, height - 1);
+    }
+    changed(false, height - 1, v, 0, Shape::Unknown, height - 1)
+}
+
+// The change by one instruction on so many operands, where v is the value that it looks at.
+pub fn change_of(
+    t: &[u64],
+    x: Ctx,
+    i: Instr,
+    ip: usize,
+    floor: usize,
+    height: usize,
+    v: Value,
+) -> Change
+    requires { ⌜ Of (now t) (x .chunk) x × Within i × (floor ≤ 64) × (height ≤ 64) ⌝ }
+    ensures { λ q. ⌜ Changes (now (t .entry)) x i ip floor height (valueOf v) q ⌝ }
+{
+    let e = bytecode::op_depth_effect(i, x.index_trap, x.host_trap);
+    let verdict = check_need(height, index(e.need), floor, ip);
+    if verdict.passed() {} else {
+        return unchanged(true, verdict, false, v, height);
+    }
+    if i.code == 5 {
+        return change_local(t, x, i.a, v, height, ip);
+    }
+    if i.code == 49 {
+        return unchanged(true, verdict, false, v, height);
+    }
+    if i.code == 52 {
+        return unchanged(true, verdict, false, v, height);
+    }
+    let r = rule_by(t, x, i, e, v, ip);
+    let take = r.take;
+    // This is never so, since a rule takes what is needed at most; but that is known of a rule on a state, and here there is none.
+    if height < take {
+        return unchanged(true, verdict, false, v, height);
+    }
+    change_by(r, height, ip)
 }

@@ -2,7 +2,7 @@
 use mathlib.Core.Path.{_≡_, refl}
 use mathlib.Core.Bool.{Bool, true, false}
 use mathlib.Core.Option.{Option, none, some}
-use mathlib.Core.List.{List, [], _∷_, map}
+use mathlib.Core.List.{List, [], _∷_, _++_, map}
 use Prim.Native.Nat.{ℕ, zero, suc, _+_, _*_, _%_, _<_}
 use lib.ListN.{length, getD, take, drop}
 use lib.Dec.{eqb}
@@ -74,6 +74,25 @@ placing ns = tabulate 0 256 (λ k. index-of 0 k ns)
 
 unfoldable pub places : List ℕ
 places = placing (map text-place names)
+
+-- The table of the names: for each row the name in three words, its length and the largest numbers of its operands; then the places.
+unfoldable pub table-row : OpRow → List ℕ
+table-row r =
+    little (take 8 (name-bytes r))
+    ∷ little (take 8 (drop 8 (name-bytes r)))
+    ∷ little (take 8 (drop 16 (name-bytes r)))
+    ∷ length (name-bytes r)
+    ∷ getD (r .maxima) 0 0
+    ∷ getD (r .maxima) 1 0
+    ∷ getD (r .maxima) 2 0
+    ∷ []
+
+unfoldable pub table-rows : List OpRow → List ℕ
+table-rows [] = []
+table-rows (r ∷ rs) = table-row r ++ table-rows rs
+
+unfoldable pub name-table : List ℕ
+name-table = table-rows ops ++ places
 
 -- ── Plain names ───────────────────────────────────────────────────────────────────────────
 

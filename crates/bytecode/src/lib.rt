@@ -1,4 +1,4 @@
-// The tables of a module, in one lent slice of words: word k counts the rows of table k, whose rows stand from BASES[k] on.
+// The tables of a module, in one lent slice of words: word k counts the rows of table k, whose rows stand from base_of(k) on.
 ghost use mathlib.Core.Path.{_≡_};
 ghost use Prim.Native.Nat.{ℕ, _+_, _*_, _-_, _%_, _<_, _≤_};
 ghost use mathlib.Core.List.{map};
@@ -20,31 +20,59 @@ pub const SIZE: usize = 22232;
 
 pub const WORDS: usize = 19;
 
-const STRIDES: [usize; 10] = [8, 1, 4, 3, 2, 2, 19, 4, 2, 4];
-
-const CAPS: [u64; 10] = [1, 256, 256, 256, 64, 64, 64, 64, 1024, 4096];
-
-const BASES: [usize; 10] = [16, 24, 280, 1304, 2072, 2200, 2328, 3544, 3800, 5848];
-
+// A table's layout is decided by a `match`, which costs one load: a constant array would be made anew at each call.
 fn stride_of(k: usize) -> usize
     requires { ⌜ k < tables ⌝ }
     ensures { λ r. ⌜ r ≡ stride k ⌝ }
 {
-    STRIDES[k]
+    match k {
+        0 => 8,
+        1 => 1,
+        2 => 4,
+        3 => 3,
+        4 => 2,
+        5 => 2,
+        6 => 19,
+        7 => 4,
+        8 => 2,
+        _ => 4,
+    }
 }
 
 fn base_of(k: usize) -> usize
     requires { ⌜ k < tables ⌝ }
     ensures { λ r. ⌜ r ≡ base k ⌝ }
 {
-    BASES[k]
+    match k {
+        0 => 16,
+        1 => 24,
+        2 => 280,
+        3 => 1304,
+        4 => 2072,
+        5 => 2200,
+        6 => 2328,
+        7 => 3544,
+        8 => 3800,
+        _ => 5848,
+    }
 }
 
 pub fn cap_of(k: usize) -> u64
     requires { ⌜ k < tables ⌝ }
     ensures { λ r. ⌜ r ≡ cap k ⌝ }
 {
-    CAPS[k]
+    match k {
+        0 => 1,
+        1 => 256,
+        2 => 256,
+        3 => 256,
+        4 => 64,
+        5 => 64,
+        6 => 64,
+        7 => 64,
+        8 => 1024,
+        _ => 4096,
+    }
 }
 
 fn index(x: u64) -> usize

@@ -10,6 +10,7 @@ ghost use Rattle.definition.specs.Format.{Bytes, bytes, digits-from, is-digit, 
 ghost use Rattle.definition.specs.Shapes.{same-places};
 ghost use Rattle.definition.specs.Ops.{ops as op-rows};
 ghost use Rattle.bytecode.specs.Meaning.{maxima-of};
+ghost use Rattle.bytecode.specs.Names.{name-table};
 ghost use Rattle.listing.specs.Scan.{admitted, formats, shape-word, max-code};
 ghost use Rattle.definition.specs.Basics.{is-member};
 ghost use mathlib.Core.Bool.{true, false, _&&_};
@@ -22,7 +23,7 @@ ghost use Rattle.definition.specs.Read.{read as read-listing};
 ghost use Rattle.definition.specs.Module.{Module, all-consts, all-ops};
 ghost use Rattle.bytecode.specs.Tables.{size};
 ghost use Rattle.bytecode.specs.Held.{Held, lists, Sound};
-ghost use Rattle.listing.specs.Forms.{Fits, form-kind, lows, highs, place-after, may-stand, own-limit, head-word, row-words};
+ghost use Rattle.listing.specs.Forms.{Fits, form-kind, lows, highs, nexts, place-after, may-stand, own-limit, head-word, row-words};
 ghost use Rattle.listing.specs.Step.{StepIs, limit-of, Same-words};
 ghost use Rattle.listing.specs.OpLines.{name-ends, name-of};
 ghost use Rattle.listing.specs.Find.{Entered, whole-line};
@@ -216,11 +217,18 @@ pub enum Num {
     Bad,
 }
 
-fn format_at(j: usize) -> u8
-    requires { ⌜ j < 176 ⌝ }
+// The forms, to be lent: an array that is a constant is made anew where it is named.
+fn line_formats() -> [u8; 176]
+    ensures { λ r. ⌜ r ≡ formats ⌝ }
+{
+    FORMATS
+}
+
+fn format_at(table: &[u8; 176], j: usize) -> u8
+    requires { ⌜ (now table ≡ formats) × (j < 176) ⌝ }
     ensures { λ r. ⌜ r ≡ getD formats j 0 ⌝ }
 {
-    FORMATS[j]
+    table[j]
 }
 
 fn wide(x: u8) -> u64
@@ -521,8 +529,8 @@ fn is_byte(s: &[u8], i: usize, c: u8) -> bool
 }
 
 // The line s by form f, from its beginning.
-fn scan(s: &[u8], f: usize) -> Row
-    requires { ⌜ (f < 11) × (length (now s) ≤ 65536) ⌝ }
+fn scan(table: &[u8; 176], s: &[u8], f: usize) -> Row
+    requires { ⌜ (f < 11) × (length (now s) ≤ 65536) × (now table ≡ formats) ⌝ }
     ensures { λ r. ⌜ Rowed (left (now (s .entry)) 0 (f * 16)) (now (s .entry)) [] r ⌝ }
 {
     let mut vals = [0u64; 19];
@@ -530,7 +538,7 @@ fn scan(s: &[u8], f: usize) -> Row
     let mut i: usize = 0;
     let mut j = f * 16;
     while j < 176 {
-        let c = format_at(j);
+        let c = format_at(table, j);
         if c == 10 {
             break;
         }
@@ -593,9 +601,10 @@ fn line_entry(s: &[u8]) -> Entry
     requires { ⌜ length (now s) ≤ 65536 ⌝ }
     ensures { λ r. ⌜ Entered (whole-line line-forms (now (s .entry))) r ⌝ }
 {
+    let table = line_formats();
     let mut f = 0;
     while f < 11 {
-        let r = scan(s, f);
+        let r = scan(&table, s, f);
         let n = r.count;
         let vals = r.vals;
         if whole(r.ok, r.next, s.len()) {
@@ -642,22 +651,8 @@ fn name_end(s: &[u8], at: usize) -> usize
     i
 }
 
-// The largest number that operand j of a row may be; 0 where there is none.
-fn maximum(row: usize, j: usize) -> u32
-    requires { ⌜ (row < 75) × (j < 3) ⌝ }
-    ensures { λ r. ⌜ r ≡ getD (maxima-of row) j 0 ⌝ }
-{
-    if j == 0 {
-        return ops::maximum_a(row);
-    }
-    if j == 1 {
-        return ops::maximum_b(row);
-    }
-    ops::maximum_c(row)
-}
-
 // The code of the numbers up to a maximum.
-fn maximum_code(m: u32) -> u8
+fn maximum_code(m: u64) -> u8
     ensures { λ r. ⌜ r ≡ max-code m ⌝ }
 {
     if m == 255 {
@@ -676,15 +671,15 @@ fn maximum_code(m: u32) -> u8
 }
 
 // The operands of a row, from `at` on.
-fn operands(s: &[u8], at: usize, row: usize) -> Row
-    requires { ⌜ row < 75 ⌝ }
+fn operands(names: &[u64; 781], s: &[u8], at: usize, row: usize) -> Row
+    requires { ⌜ (row < 75) × (now names ≡ name-table) ⌝ }
     ensures { λ r. ⌜ Rowed (numbers-at (maxima-of row) (drop at (now (s .entry)))) (now (s .entry)) [] r ⌝ }
 {
     let mut vals = [0u64; 19];
     let mut i = at;
     let mut j = 0;
     while j < 3 {
-        let m = maximum(row, j);
+        let m = ops::maximum(names, row, j);
         if m == 0 {
             break;
         }
@@ -716,17 +711,17 @@ fn closes(s: &[u8], i: usize, ok: bool) -> bool
 }
 
 // A line that begins as an op, by the row of its name.
-fn op_entry(s: &[u8]) -> Entry
-    requires { ⌜ (strip (bytes "(op ") (now s) ≡ some (drop 4 (now s))) × (4 ≤ length (now s)) ⌝ }
+fn op_entry(names: &[u64; 781], s: &[u8]) -> Entry
+    requires { ⌜ (strip (bytes "(op ") (now s) ≡ some (drop 4 (now s))) × (4 ≤ length (now s)) × (now names ≡ name-table) ⌝ }
     ensures { λ r. ⌜ Entered (whole-line (op-forms 0 op-rows) (now (s .entry))) r ⌝ }
 {
     let at = 4;
     let e = name_end(s, at);
     let name = &s[at..e];
-    let Found::Row(row) = ops::find(name) else {
+    let Found::Row(row) = ops::find(names, name) else {
         return no_entry();
     };
-    let r = operands(s, e, row);
+    let r = operands(names, s, e, row);
     let n = r.count;
     let vals = r.vals;
     if closes(s, r.next, r.ok) {
@@ -740,14 +735,14 @@ fn op_entry(s: &[u8]) -> Entry
 }
 
 // The line that the bytes say.
-fn read_entry(s: &[u8]) -> Entry
-    requires { ⌜ length (now s) ≤ 65536 ⌝ }
+fn read_entry(names: &[u64; 781], s: &[u8]) -> Entry
+    requires { ⌜ (length (now s) ≤ 65536) × (now names ≡ name-table) ⌝ }
     ensures { λ r. ⌜ Entered (read-line (now (s .entry))) r ⌝ }
 {
     let Num::Read(_, _) = text(s, 0, b"(op ") else {
         return line_entry(s);
     };
-    op_entry(s)
+    op_entry(names, s)
 }
 
 // What a line does: the reader goes on at a place; or the line is refused, by its form or place, by a full table, or by LOCALS.
@@ -758,37 +753,83 @@ pub enum Step {
     Locals,
 }
 
-// For each form that is no op, its table; the closing line has none.
-const KINDS: [usize; 11] = [0, 1, 1, 2, 3, 4, 5, 6, 7, 8, 10];
-
-// For each table, and last the closing line: the places where its lines may stand, and the place after such a line.
-const LOWS: [u64; 11] = [0, 1, 1, 1, 1, 1, 1, 1, 8, 8, 1];
-
-const HIGHS: [u64; 11] = [0, 1, 2, 3, 4, 5, 6, 7, 8, 9, 9];
-
-const NEXTS: [u64; 10] = [1, 1, 2, 3, 4, 5, 6, 8, 8, 9];
-
+// The table of a form; the closing line, form 10, has none.
 fn kind_of(form: usize) -> usize
     ensures { λ r. ⌜ (r ≡ form-kind form) × (r < 11) ⌝ }
 {
-    if form < 11 {
-        return KINDS[form];
+    match form {
+        0 => 0,
+        1 => 1,
+        2 => 1,
+        3 => 2,
+        4 => 3,
+        5 => 4,
+        6 => 5,
+        7 => 6,
+        8 => 7,
+        9 => 8,
+        10 => 10,
+        _ => 9,
     }
-    9
 }
 
+// For each table, and last the closing line, the first place where its lines may stand.
 fn low_of(kind: usize) -> u64
     requires { ⌜ kind < 11 ⌝ }
     ensures { λ r. ⌜ r ≡ getD lows kind 0 ⌝ }
 {
-    LOWS[kind]
+    match kind {
+        0 => 0,
+        1 => 1,
+        2 => 1,
+        3 => 1,
+        4 => 1,
+        5 => 1,
+        6 => 1,
+        7 => 1,
+        8 => 8,
+        9 => 8,
+        _ => 1,
+    }
 }
 
+// And the last such place.
 fn high_of(kind: usize) -> u64
     requires { ⌜ kind < 11 ⌝ }
     ensures { λ r. ⌜ r ≡ getD highs kind 0 ⌝ }
 {
-    HIGHS[kind]
+    match kind {
+        0 => 0,
+        1 => 1,
+        2 => 2,
+        3 => 3,
+        4 => 4,
+        5 => 5,
+        6 => 6,
+        7 => 7,
+        8 => 8,
+        9 => 9,
+        _ => 9,
+    }
+}
+
+// The place after a line of a table.
+fn place_after_row(kind: usize) -> u64
+    requires { ⌜ kind < 10 ⌝ }
+    ensures { λ r. ⌜ r ≡ getD nexts kind 0 ⌝ }
+{
+    match kind {
+        0 => 1,
+        1 => 1,
+        2 => 2,
+        3 => 3,
+        4 => 4,
+        5 => 5,
+        6 => 6,
+        7 => 8,
+        8 => 8,
+        _ => 9,
+    }
 }
 
 fn place_after(kind: usize, place: u64) -> u64
@@ -801,7 +842,7 @@ fn place_after(kind: usize, place: u64) -> u64
         }
         return 10;
     }
-    NEXTS[kind]
+    place_after_row(kind)
 }
 
 fn stands(place: u64, kind: usize) -> bool
@@ -889,11 +930,11 @@ fn row_words(e: Entry, constants: u64, instructions: u64) -> [u64; 19]
 }
 
 // One line, from the tables before it to the tables after it.
-fn one_line(t: &mut [u64], place: u64, s: &[u8]) -> Step
-    requires { ⌜ (length (now t) ≡ size) × (length (now s) ≤ 65536) ⌝ }
+fn one_line(names: &[u64; 781], t: &mut [u64], place: u64, s: &[u8]) -> Step
+    requires { ⌜ (length (now t) ≡ size) × (length (now s) ≤ 65536) × (now names ≡ name-table) ⌝ }
     ensures { λ r. ⌜ ((n : ℕ) (q : Reader) → q .place ≡ place → Held (now (t .entry)) (lists q) → Sound q → StepIs n (next-line n q (now (s .entry))) r (now (t .exit))) × (length (now (t .exit)) ≡ size) ⌝ }
 {
-    let e = read_entry(s);
+    let e = read_entry(names, s);
     if 86 <= e.form {
         return Step::Wrong;
     }
@@ -954,8 +995,8 @@ fn clear(t: &mut [u64])
 }
 
 // Lines from the first on, each after the tables of those before it.
-fn read_lines(s: &[u8], t: &mut [u64]) -> Reading
-    requires { ⌜ (length (now s) ≤ 65536) × Held (now t) (lists at-start) ⌝ }
+fn read_lines(names: &[u64; 781], s: &[u8], t: &mut [u64]) -> Reading
+    requires { ⌜ (length (now s) ≤ 65536) × Held (now t) (lists at-start) × (now names ≡ name-table) ⌝ }
     ensures { λ r. ⌜ Read-is (read-all (now (s .entry))) r (now (t .exit)) ⌝ }
 {
     let mut place: u64 = 0;
@@ -966,7 +1007,7 @@ fn read_lines(s: &[u8], t: &mut [u64]) -> Reading
         if s.len() <= e {
             return Reading::Line(lines);
         }
-        let step = one_line(t, place, &s[at..e]);
+        let step = one_line(names, t, place, &s[at..e]);
         match step {
             Step::On(p) => {
                 place = p;
@@ -998,5 +1039,6 @@ pub fn read(s: &[u8], t: &mut [u64; 22232]) -> Reading
         return Reading::Limit(1);
     }
     clear(t);
-    read_lines(s, t)
+    let names = ops::names();
+    read_lines(&names, s, t)
 }

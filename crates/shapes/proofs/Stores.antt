@@ -1,6 +1,6 @@
 -- Laws of the values of slots: read, stored, and a store as a step on the definition's states.
 -- Assumes nothing.
-use mathlib.Core.Path.{_≡_, refl, sym, ap, ap₂, _∙_}
+use mathlib.Core.Path.{_≡_, refl, sym, ap, ap₂, subst, _∙_}
 use mathlib.Core.Logic.{⊎-elim}
 use mathlib.Core.Option.{Option, none, some}
 use mathlib.Core.List.{List, [], _∷_, _++_, map}
@@ -8,7 +8,7 @@ use Prim.Native.Nat.{ℕ, zero, suc, _+_, _*_, _-_, _≤_, _<_}
 use native.Mathlib.Numerals.{add-one}
 use native.Mathlib.Omega.{arith}
 use borrow.Author.Tests.{le-leb, lt-leb}
-use lib.ListN.{length, getD, set, take, drop, replicate, length-map, length-drop, getD-replicate, List·getD-eq-default}
+use lib.ListN.{length, getD, set, take, drop, replicate, length-map, length-set, length-drop, getD-replicate, List·getD-eq-default}
 use lib.Seq.{paste, paste-zero, take-take, getD-set-same, getD-set-other, set-out}
 use Rattle.definition.specs.Basics.{choose}
 use Rattle.definition.specs.Shapes.{Shape as AnyShape, unknown}
@@ -18,7 +18,7 @@ use Rattle.shapes.specs.declared.Slot.{Slot}
 use Rattle.shapes.specs.declared.Shape.the-variants.{Unknown}
 use Rattle.shapes.specs.Tabulated.{down, up}
 use Rattle.shapes.specs.Model.{valueIn, valueAt, stateOf, stackOf, localsOf, pushed, popped, replaced, withLocal, placesOf, countOf, shapeOf, blank}
-use Rattle.shapes.specs.Slots.{Written, Filled}
+use Rattle.shapes.specs.Slots.{Written, Filled, Spread, Laid}
 use Rattle.shapes.proofs.Lists.{lt-or-ge, down-same, down-drop, down-filled, up-same, up-set, up-length, up-replicate, pasted-here, stretch-other}
 
 -- ── Counts and places ─────────────────────────────────────────────────────────────────────
@@ -135,6 +135,77 @@ module _ (s m r : State) (t x y : ℕ) (v w : AnyShape) (ht : t ≤ s .height) (
       ∙ ap (λ (z : List AnyShape). replicate x v ++ z)
       (down-same g f a (λ j c. p .there j (λ b d. omega arith)) ∙ down-drop f t (s .height) ht)))
       (up-same k f 64 n (λ j b c. q .there j (λ d e. omega arith) ∙ p .there j (λ d e. omega arith)))
+
+-- ── Slots alone ───────────────────────────────────────────────────────────────────────────
+
+pub spread-start : (slots : List Slot) (lo : ℕ) (x : Slot) → Spread slots lo lo x slots
+spread-start slots lo x = record { long = refl; here = λ j l u. absurd (omega arith); there = λ j n. refl }
+
+pub spread-more : (slots r : List Slot) (lo i : ℕ) (x : Slot) → lo ≤ i → i < length r → Spread slots lo i x r → Spread slots lo (i + 1) x (set r i x)
+spread-more slots r lo i x g h k =
+    record {
+      long = length-set r i x ∙ k .long;
+      here = λ j l u. ⊎-elim (λ (a : j < i). getD-set-other r i j x blank (λ e. omega arith) ∙ k .here j l a)
+          (λ (a : i ≤ j). ap (λ (z : ℕ). getD (set r i x) z blank) (let e : j ≡ i = omega arith in e) ∙ getD-set-same r i x blank h)
+          (lt-or-ge j i);
+      there = λ j n. getD-set-other r i j x blank (λ e. n (omega arith) (omega arith)) ∙ k .there j (λ l u. n l (omega arith));
+    }
+
+-- ── A value with others above it ──────────────────────────────────────────────────────────
+
+fill-first : (s m u : State) (a n : ℕ) (v : AnyShape) → Written s a v m → Filled m (a + 1) (a + 1 + n) v u → Filled s a (a + 1 + n) v u
+fill-first s m u a n v w f =
+    record {
+      height = f .height ∙ w .height;
+      here = λ j l k. ⊎-elim (λ (z : a < j). f .here j (omega arith) k)
+          (λ (z : j ≤ a). let e : j ≡ a = omega arith in ap (λ (y : ℕ). valueAt (u .slots) (u .places) y) e ∙ f .there a (λ b d. omega arith) ∙ w .here)
+          (lt-or-ge a j);
+      there = λ j k. f .there j (λ b d. k (omega arith) d) ∙ w .there j (λ e. k (omega arith) (omega arith));
+    }
+
+module _ (s u : State) (t x a : ℕ) (v w : AnyShape) (ht : t ≤ s .height) (ha : a ≡ s .height - t) (n : ℕ) (low : n ≤ 32) where
+  -- the value once, then x others
+  pub laid-one : a + 1 + x ≤ 64 → Laid s a v x w u
+      → stateOf n (record { height = a + 1 + x; slots = u .slots; places = u .places }) ≡ replaced t v 1 w x (stateOf n s)
+  laid-one h l =
+      subst (λ (z : ℕ). Laid s z v x w u → stateOf n (record { height = z + 1 + x; slots = u .slots; places = u .places }) ≡ replaced t v 1 w x (stateOf n s)) (sym ha)
+      (λ k. replace-law s (k .mid) u t 1 x v w ht (omega arith) (fill-more s s (k .mid) _ _ v (omega arith) (fill-start s _ v) (k .first)) (k .rest) n low) l
+
+  -- the value 1 + x times
+  pub laid-same : (y : AnyShape) → a + 1 + x ≤ 64 → Laid s a v x v u
+      → stateOf n (record { height = a + 1 + x; slots = u .slots; places = u .places }) ≡ replaced t v (1 + x) y 0 (stateOf n s)
+  laid-same y h l =
+      subst (λ (z : ℕ). Laid s z v x v u → stateOf n (record { height = z + 1 + x; slots = u .slots; places = u .places }) ≡ replaced t v (1 + x) y 0 (stateOf n s)) (sym ha)
+      (λ k. let b : ℕ = s .height - t in
+      let e : b + 1 + x ≡ b + (1 + x) + 0 = omega arith in
+      let f : b + 1 + x ≡ b + (1 + x) = omega arith in
+      ap (λ (z : ℕ). stateOf n (record { height = z; slots = u .slots; places = u .places })) e
+      ∙ replace-law s u u t (1 + x) 0 v y ht (omega arith) (subst (λ (z : ℕ). Filled s b z v u) f (fill-first s (k .mid) u b x v (k .first) (k .rest)))
+      (subst (λ (z : ℕ). Filled u (b + (1 + x)) z y u) (let g : b + (1 + x) ≡ b + (1 + x) + 0 = omega arith in g) (fill-start u _ y)) n low) l
+
+  -- only others, 1 + x of them
+  pub laid-only : (y : AnyShape) → a + 1 + x ≤ 64 → Laid s a v x v u
+      → stateOf n (record { height = a + 1 + x; slots = u .slots; places = u .places }) ≡ replaced t y 0 v (1 + x) (stateOf n s)
+  laid-only y h l = laid-same y h l ∙ refl
+
+  -- a slot above the operands says nothing
+  pub laid-none : (y z : AnyShape) → a < 64 → Laid s a v 0 w u → stateOf n (record { height = a; slots = u .slots; places = u .places }) ≡ replaced t y 0 z 0 (stateOf n s)
+  laid-none y z h l =
+      let same : (j : ℕ) → (j ≡ a → ⊥) → valueAt (u .slots) (u .places) j ≡ valueAt (s .slots) (s .places) j
+      = λ j e. l .rest .there j (λ b d. omega arith) ∙ l .first .there j e in
+      model
+      (down-same _ _ a (λ j k. same j (λ e. omega arith)) ∙ ap (down (valueAt (s .slots) (s .places))) ha ∙ down-drop (valueAt (s .slots) (s .places)) t (s .height) ht)
+      (up-same _ _ 64 n (λ j b c. same j (λ e. omega arith)))
+
+-- the top operand taken, and local i set
+pub laid-local : (s u : State) (i : ℕ) (v w : AnyShape) (n : ℕ) → 1 ≤ s .height → s .height ≤ 64 → i < n → n ≤ 32 → Laid s (64 + i) v 0 w u
+    → stateOf n (record { height = s .height - 1; slots = u .slots; places = u .places }) ≡ record { stack = drop 1 (stackOf s); locals = set (localsOf n s) i v }
+laid-local s u i v w n g h l b k =
+    let same : (j : ℕ) → (j ≡ 64 + i → ⊥) → valueAt (u .slots) (u .places) j ≡ valueAt (s .slots) (s .places) j
+    = λ j e. k .rest .there j (λ a d. omega arith) ∙ k .first .there j e in
+    model
+    (down-same _ _ (s .height - 1) (λ j c. same j (λ e. omega arith)) ∙ down-drop (valueAt (s .slots) (s .places)) 1 (s .height) g)
+    (up-set _ _ 64 n i v l (k .rest .there (64 + i) (λ a d. omega arith) ∙ k .first .here) same)
 
 pub local-law : (s r : State) (i : ℕ) (v : AnyShape) (n : ℕ) → s .height ≤ 64 → i < n → n ≤ 32 → Written s (64 + i) v r → stateOf n r ≡ withLocal i v (stateOf n s)
 local-law s r i v n h l b w =

@@ -16,7 +16,7 @@ ghost use Rattle.definition.specs.Effects.{keep-if, places-within, shift, built
 ghost use Rattle.value_layout.specs.Sizes.{Wide};
 ghost use Rattle.shapes.specs.Model.{shapeOf, plainOf, placesOf, countOf, valueOf, valueIn, valueAt, stackOf, localsOf, stateOf, pushed, popped, replaced, withLocal, widened};
 ghost use Rattle.shapes.specs.Cover.{covers, covers-all, covers-state};
-ghost use Rattle.shapes.specs.Slots.{Written, Filled, Joined, Same};
+ghost use Rattle.shapes.specs.Slots.{Written, Filled, Spread, Joined, Same};
 ghost use Rattle.shapes.specs.Text.{Holds, packedOf, Means, bytes, Took};
 
 // ---- shapes
@@ -463,14 +463,14 @@ pub struct Slot {
 }
 
 // How many places a count says: none where they are unknown.
-fn known_places(known: u8) -> usize
+pub fn known_places(known: u8) -> usize
     ensures { λ r. ⌜ (r ≤ 16) × (r ≡ countOf known) ⌝ }
 {
     if 16 < known { 0 } else { known as usize }
 }
 
 // The first n of v laid in from `at` on.
-fn put(places: &mut [u32; 1536], at: usize, v: [u32; 16], n: usize)
+pub fn put(places: &mut [u32; 1536], at: usize, v: [u32; 16], n: usize)
     requires { ⌜ (length (now places) ≡ 1536) × (at + 16 ≤ 1536) × (n ≤ 16) ⌝ }
     ensures { λ r. ⌜ now (places .exit) ≡ paste (now (places .entry)) at v n ⌝ }
 {
@@ -496,7 +496,7 @@ fn cut(places: &[u32; 1536], at: usize, n: usize) -> [u32; 16]
 }
 
 // The value of slot number i. Places are copied only as far as they are known.
-fn value_in(slot: Slot, places: &[u32; 1536], i: usize) -> Value
+pub fn value_in(slot: Slot, places: &[u32; 1536], i: usize) -> Value
     requires { ⌜ (length (now places) ≡ 1536) × (i < 96) ⌝ }
     ensures { λ r. ⌜ valueOf r ≡ valueIn slot (now (places .entry)) i ⌝ }
 {
@@ -508,6 +508,20 @@ fn value_in(slot: Slot, places: &[u32; 1536], i: usize) -> Value
         known: slot.known,
         places: q,
     }
+}
+
+// The slots from lo up to hi become `slot`.
+pub fn fill_slots(slots: [Slot; 96], lo: usize, hi: usize, slot: Slot) -> [Slot; 96]
+    requires { ⌜ (lo ≤ hi) × (hi ≤ 96) ⌝ }
+    ensures { λ r. ⌜ Spread slots lo hi slot r ⌝ }
+{
+    let mut out = slots;
+    let mut i = lo;
+    while i < hi {
+        out[i] = slot;
+        i += 1;
+    }
+    out
 }
 
 // ---- states
@@ -536,7 +550,7 @@ pub fn empty_state() -> State
 
 impl State {
     // The value of slot i.
-    fn read(self, i: usize) -> Value
+    pub fn read(self, i: usize) -> Value
         requires { ⌜ i < 96 ⌝ }
         ensures { λ r. ⌜ valueOf r ≡ valueAt (self .slots) (self .places) i ⌝ }
     {

@@ -27,7 +27,8 @@ use Rattle.answer.specs.Answer.{numbers}
 use Rattle.walk.specs.declared.Walk.{Walk}
 use Rattle.walk.specs.declared.Walk.the-variants as W
 use Rattle.walk.specs.Outcomes.{numbers as walk-numbers}
-use Rattle.walk.specs.Ready.{Roomy, sheetsOf, with-chunk, resultsOf}
+use Rattle.walk.specs.Ready.{Roomy, with-chunk, resultsOf}
+use Rattle.stretch.specs.Stretch.{sheetsOf}
 use Rattle.typed_check.specs.declared.Finding.{Finding}
 use Rattle.typed_check.specs.declared.Finding.the-variants.{Nothing, Refused}
 use Rattle.typed_check.specs.Equal.{found, if-any, refused-by, tests-of}

@@ -17,7 +17,7 @@ use Rattle.bytecode.specs.Meaning.{count, moduleOf}
 use Rattle.listing.specs.Answer.{Stands-in, Left-in, result-of}
 use Rattle.listing.specs.declared.Reading.{Reading}
 use Rattle.listing.specs.declared.Reading.the-variants as R
-use Rattle.walk.specs.Ready.{sheetsOf}
+use Rattle.stretch.specs.Stretch.{sheetsOf}
 use Rattle.answer.specs.declared.Refusal.{Refusal as Why}
 use Rattle.answer.specs.declared.Refusal.the-variants as W
 use Rattle.answer.specs.declared.Answer.{Answer}

@@ -20,7 +20,8 @@ ghost use Rattle.data_layout.specs.Answer.{numbers as layout-numbers};
 ghost use Rattle.apply.specs.Answers.{refusal as verdict-numbers};
 ghost use Rattle.walk.specs.Outcomes.{numbers as walk-numbers, values-of};
 ghost use Rattle.answer.specs.Answer.{numbers};
-ghost use Rattle.walk.specs.Ready.{sheetsOf, with-chunk};
+ghost use Rattle.walk.specs.Ready.{with-chunk};
+ghost use Rattle.stretch.specs.Stretch.{sheetsOf};
 ghost use Rattle.typed_check.specs.Equal.{checkedOf, Sound, Holds, found, if-any, refused-by, tests-of};
 
 // What a test found: nothing, or what the listing is refused for.

@@ -19,7 +19,8 @@ use Rattle.bytecode.specs.Tables.{all-below, at-each}
 use Rattle.bytecode.specs.Meaning.{chunkOf, first-op, op-count, instrAt, code-some, code-none}
 use Rattle.bytecode.specs.Parts.{instrOf, Instr-is}
 use Rattle.bytecode.specs.declared.Instr.{Instr}
-use Rattle.walk.specs.Ready.{straight, leads}
+use Rattle.walk.specs.Ready.{leads}
+use Rattle.stretch.specs.Stretch.{straight}
 
 abbrev op : ℕ → ℕ → ℕ → ℕ → AnyInstr
 op k a b c = instr (record { code = k; operands = a ∷ b ∷ c ∷ [] })

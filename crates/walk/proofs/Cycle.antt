@@ -25,7 +25,8 @@ use Rattle.shapes.specs.Model.{stateOf, stackOf, localsOf}
 use Rattle.bytecode.specs.Meaning.{chunkOf, first-op, op-count, localsAt, instrAt, code-length, chunk-locals}
 use Rattle.walk.specs.Outcomes.{numbers, pendingOf, breaksOf, flowOf, walkedOf, onwardOf, restOf, leavingOf, leftOf, fallOf, meets, after-last, after-loop, loopOf, Open}
 use Rattle.apply.specs.Answers.{is-none, refusal}
-use Rattle.walk.specs.Ready.{sheetsOf, Placed, Ready, chunkIn, instrIn, Examined, markIn, visitIn, straight, leads, armsIn, forgotten, lastIn}
+use Rattle.walk.specs.Ready.{Placed, Ready, chunkIn, instrIn, Examined, markIn, visitIn, leads, armsIn, forgotten, lastIn}
+use Rattle.stretch.specs.Stretch.{sheetsOf, straight}
 use Rattle.walk.specs.declared.Refusal.{Refusal}
 use Rattle.walk.specs.declared.Refusal.the-variants.{Instruction}
 use Rattle.walk.specs.declared.Flow.{Flow}
@@ -90,63 +91,6 @@ module _ (t h₀ b₀ : List ℕ) (x : Ctx) (start end floor : ℕ) (s₀ : Stat
   walking-end e = sym (W .on ∙ full-end (chunkIn t x) ip end floor (stateOf (x .locals) s) (breaksOf (x .locals) k) (sheetsOf h b) e)
 
   module _ (below : ip < end) (code a : ℕ) (leads-there : control (instrIn t x ip) ≡ leads code a) where
-    -- an instruction that leads onward
-    module _ (is-straight : straight code ≡ true) (r : Step) (E : Examined t x ip floor s r) where
-      pub walking-on : is-none (refusal (r .verdict)) ≡ true → (h′ b′ : List ℕ) → length h′ ≡ length h → length b′ ≡ length b →
-          sheetsOf h′ b′ ≡ markIn t x ip s (sheetsOf h b) → Walking t h₀ b₀ x start end floor s₀ k₀ h′ b′ (ip + 1) (r .state) k
-      walking-on passed h′ b′ e f m =
-          let q = W .ready in
-          let c : Chunk = chunkIn t x in
-          record {
-            ready =
-                record {
-                  placed = placed-by t h b h′ b′ x e f (q .placed);
-                  from = q .from;
-                  arm = q .arm;
-                  after = omega (arith, q .after);
-                  before = omega arith;
-                  floor-low = q .floor-low;
-                  height-low = E .low;
-                  breaks-low = q .breaks-low;
-                };
-            onward = omega (arith, W .onward);
-            heights-same = e ∙ W .heights-same;
-            blinds-same = f ∙ W .blinds-same;
-            on =
-                W .on
-                ∙ ⊎-elim
-                (λ z.
-                at-instr t h b x ip end floor _ _ q below s k (sheetsOf h b) onward (leads-there ∙ z)
-                ∙ instr-onward c (full c) ip end floor (stateOf (x .locals) s) (breaksOf (x .locals) k) (sheetsOf h b) (instrIn t x ip) _
-                (examined-ok t x ip floor s k (sheetsOf h b) r E passed))
-                (λ z.
-                at-instr t h b x ip end floor _ _ q below s k (sheetsOf h b) resets (leads-there ∙ z)
-                ∙ instr-resets c (full c) ip end floor (stateOf (x .locals) s) (breaksOf (x .locals) k) (sheetsOf h b) (instrIn t x ip) _
-                (examined-ok t x ip floor s k (sheetsOf h b) r E passed))
-                (straight-leads code a is-straight)
-                ∙ ap (λ (n : ℕ). full c n end floor (stateOf (x .locals) (r .state)) (breaksOf (x .locals) k) (markIn t x ip s (sheetsOf h b)))
-                (let z : suc ip ≡ ip + 1 = omega arith in z)
-                ∙ ap (full c (ip + 1) end floor (stateOf (x .locals) (r .state)) (breaksOf (x .locals) k)) (sym m);
-          }
-
-      pub walking-refused : is-none (refusal (r .verdict)) ≡ false → (o : Outcome) (sh′ : Sheets) → o .flow ≡ Refused (Instruction (r .verdict)) →
-          walkedOf (x .locals) o sh′ ≡ full (chunkIn t x) start end floor (stateOf (x .locals) s₀) (breaksOf (x .locals) k₀) (sheetsOf h₀ b₀)
-      unfolding flowOf
-      walking-refused e o sh′ f =
-          let c : Chunk = chunkIn t x in
-          let g : examine c ip floor (instrIn t x ip) (stateOf (x .locals) s) ≡ refused (numbers (Instruction (r .verdict))) = sym (E .result) ∙ refused-is (x .locals) r e in
-          ap (flowOf (x .locals) o sh′) f
-          ∙ sym
-          (W .on
-          ∙ ⊎-elim
-          (λ z.
-          at-instr t h b x ip end floor _ _ (W .ready) below s k (sheetsOf h b) onward (leads-there ∙ z)
-          ∙ instr-refused c (full c) ip end floor (stateOf (x .locals) s) (breaksOf (x .locals) k) (sheetsOf h b) (instrIn t x ip) onward tt _ g)
-          (λ z.
-          at-instr t h b x ip end floor _ _ (W .ready) below s k (sheetsOf h b) resets (leads-there ∙ z)
-          ∙ instr-refused c (full c) ip end floor (stateOf (x .locals) s) (breaksOf (x .locals) k) (sheetsOf h b) (instrIn t x ip) resets tt _ g)
-          (straight-leads code a is-straight))
-
     -- an instruction with its blocks
     module _ (r : Onward) (h′ b′ : List ℕ)
         (R : restOf (chunkIn t x) (x .locals) end floor r (sheetsOf h′ b′) ≡ visitIn t x ip end floor s k (sheetsOf h b) (leads code a)) where
@@ -196,14 +140,14 @@ module _ (t h₀ b₀ : List ℕ) (x : Ctx) (start end floor : ℕ) (s₀ : Stat
 
 -- a stretch that was not refused
 pub open-walked : (locals : ℕ) (o : Outcome) (sh : Sheets) → Open (o .flow) →
-    walkedOf locals o sh ≡ ok (record { fall = fallOf locals o (o .flow); breaks = breaksOf locals (o .breaks); sheets = sh })
+    walkedOf locals o sh ≡ ok (record { fall = fallOf locals (o .state) (o .flow); breaks = breaksOf locals (o .breaks); sheets = sh })
 unfolding flowOf fallOf
 open-walked locals o sh h = go (o .flow) refl h
   where
-    go : (f : Flow) → o .flow ≡ f → Open f → walkedOf locals o sh ≡ ok (record { fall = fallOf locals o (o .flow); breaks = breaksOf locals (o .breaks); sheets = sh })
+    go : (f : Flow) → o .flow ≡ f → Open f → walkedOf locals o sh ≡ ok (record { fall = fallOf locals (o .state) (o .flow); breaks = breaksOf locals (o .breaks); sheets = sh })
     go (Refused r) e x = absurd x
-    go Ended e x = ap (flowOf locals o sh) e ∙ ap (λ (f : Flow). ok (record { fall = fallOf locals o f; breaks = breaksOf locals (o .breaks); sheets = sh })) (sym e)
-    go Falls e x = ap (flowOf locals o sh) e ∙ ap (λ (f : Flow). ok (record { fall = fallOf locals o f; breaks = breaksOf locals (o .breaks); sheets = sh })) (sym e)
+    go Ended e x = ap (flowOf locals o sh) e ∙ ap (λ (f : Flow). ok (record { fall = fallOf locals (o .state) f; breaks = breaksOf locals (o .breaks); sheets = sh })) (sym e)
+    go Falls e x = ap (flowOf locals o sh) e ∙ ap (λ (f : Flow). ok (record { fall = fallOf locals (o .state) f; breaks = breaksOf locals (o .breaks); sheets = sh })) (sym e)
 
 module _ (c : Chunk) (locals e end floor : ℕ) where
   -- on from what a block left
@@ -262,7 +206,7 @@ module _ (t : List ℕ) (x : Ctx) (target ip end floor : ℕ) (s : State) (b : B
         (first-arm ∙ ap (flowOf (x .locals) a sh₁) e))
         ∙ one-arm
 
-    pub one-joined : Open (a .flow) → (m : Outcome) → walkedOf (x .locals) m sh₁ ≡ meets ip (fallOf (x .locals) a (a .flow)) (some S) (breaksOf (x .locals) (a .breaks)) sh₁ →
+    pub one-joined : Open (a .flow) → (m : Outcome) → walkedOf (x .locals) m sh₁ ≡ meets ip (fallOf (x .locals) (a .state) (a .flow)) (some S) (breaksOf (x .locals) (a .breaks)) sh₁ →
         onwardOf C (x .locals) (target + 1) end floor m sh₁ (m .flow) ≡ armsIn t x target ip end floor s b sh
     unfolding walk-arms _>>=_
     one-joined o m h =
@@ -297,7 +241,7 @@ module _ (t : List ℕ) (x : Ctx) (target ip end floor : ℕ) (s : State) (b : B
       abbrev last : Result Walked → Result Walked
       last m =
           m >>= λ (q : Walked).
-          join-ends ip (fallOf (x .locals) a (a .flow)) (q .fall) >>= λ (j : Option AnyState).
+          join-ends ip (fallOf (x .locals) (a .state) (a .flow)) (q .fall) >>= λ (j : Option AnyState).
           go-on (full C) e end floor (q .breaks) (q .sheets) j
 
       after-then : rest (full C (suc ip) (target - 1) floor S B sh) ≡ last (full C target e floor S (breaksOf (x .locals) (a .breaks)) sh₁)
@@ -311,7 +255,7 @@ module _ (t : List ℕ) (x : Ctx) (target ip end floor : ℕ) (s : State) (b : B
           ∙ sym (after-then ∙ ap last (sym D ∙ ap (flowOf (x .locals) d sh₂) f)) ∙ two-arms
 
       pub both-joined : Open (d .flow) → (m : Outcome) →
-          walkedOf (x .locals) m sh₂ ≡ meets ip (fallOf (x .locals) a (a .flow)) (fallOf (x .locals) d (d .flow)) (breaksOf (x .locals) (d .breaks)) sh₂ →
+          walkedOf (x .locals) m sh₂ ≡ meets ip (fallOf (x .locals) (a .state) (a .flow)) (fallOf (x .locals) (d .state) (d .flow)) (breaksOf (x .locals) (d .breaks)) sh₂ →
           onwardOf C (x .locals) (e + 1) end floor m sh₂ (m .flow) ≡ armsIn t x target ip end floor s b sh
       unfolding walk-arms _>>=_
       both-joined p m h =

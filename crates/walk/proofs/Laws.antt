@@ -21,7 +21,8 @@ use Rattle.definition.specs.Tests.{is-blind, reading}
 use Rattle.definition.specs.Walk.{mark, mark-blind, forget-one, names-local, forget, with-locals}
 use Rattle.bytecode.specs.Meaning.{first-op, chunk-base}
 use Rattle.apply.specs.declared.Ctx.{Ctx}
-use Rattle.walk.specs.Ready.{sheetsOf, chunkIn, instrIn, markIn, straight, leads}
+use Rattle.walk.specs.Ready.{chunkIn, instrIn, markIn, leads}
+use Rattle.stretch.specs.Stretch.{sheetsOf}
 use Rattle.walk.proofs.Codes.{leads-low}
 use Rattle.definition.specs.Basics.{Result, ok, refused, _>>=_}
 use Rattle.definition.specs.Shapes.{same-shapes}
@@ -84,25 +85,25 @@ module _ (locals : ℕ) (b : Breaks) (s : State) where
 
 module _ (locals ip : ℕ) (a b : Outcome) (sh : Sheets) where
   -- no end of the first arm: the second's end stands
-  pub join-second : a .flow ≡ Ended → Open (b .flow) → walkedOf locals b sh ≡ meets ip (fallOf locals a (a .flow)) (fallOf locals b (b .flow)) (breaksOf locals (b .breaks)) sh
+  pub join-second : a .flow ≡ Ended → Open (b .flow) → walkedOf locals b sh ≡ meets ip (fallOf locals (a .state) (a .flow)) (fallOf locals (b .state) (b .flow)) (breaksOf locals (b .breaks)) sh
   unfolding meets join-ends fallOf flowOf _>>=_
-  join-second e o = go (b .flow) refl o ∙ ap (λ (f : Flow). meets ip (fallOf locals a f) (fallOf locals b (b .flow)) (breaksOf locals (b .breaks)) sh) (sym e)
+  join-second e o = go (b .flow) refl o ∙ ap (λ (f : Flow). meets ip (fallOf locals (a .state) f) (fallOf locals (b .state) (b .flow)) (breaksOf locals (b .breaks)) sh) (sym e)
     where
-      go : (f : Flow) → b .flow ≡ f → Open f → walkedOf locals b sh ≡ meets ip none (fallOf locals b (b .flow)) (breaksOf locals (b .breaks)) sh
+      go : (f : Flow) → b .flow ≡ f → Open f → walkedOf locals b sh ≡ meets ip none (fallOf locals (b .state) (b .flow)) (breaksOf locals (b .breaks)) sh
       go (Refused r) h x = absurd x
-      go Ended h x = ap (flowOf locals b sh) h ∙ ap (λ (g : Flow). meets ip none (fallOf locals b g) (breaksOf locals (b .breaks)) sh) (sym h)
-      go Falls h x = ap (flowOf locals b sh) h ∙ ap (λ (g : Flow). meets ip none (fallOf locals b g) (breaksOf locals (b .breaks)) sh) (sym h)
+      go Ended h x = ap (flowOf locals b sh) h ∙ ap (λ (g : Flow). meets ip none (fallOf locals (b .state) g) (breaksOf locals (b .breaks)) sh) (sym h)
+      go Falls h x = ap (flowOf locals b sh) h ∙ ap (λ (g : Flow). meets ip none (fallOf locals (b .state) g) (breaksOf locals (b .breaks)) sh) (sym h)
 
   falls-at : {f g : Flow} → a .flow ≡ f → b .flow ≡ g →
-      meets ip (fallOf locals a f) (fallOf locals b g) (breaksOf locals (b .breaks)) sh
-      ≡ meets ip (fallOf locals a (a .flow)) (fallOf locals b (b .flow)) (breaksOf locals (b .breaks)) sh
+      meets ip (fallOf locals (a .state) f) (fallOf locals (b .state) g) (breaksOf locals (b .breaks)) sh
+      ≡ meets ip (fallOf locals (a .state) (a .flow)) (fallOf locals (b .state) (b .flow)) (breaksOf locals (b .breaks)) sh
   falls-at {f} {g} e h =
-      ap (λ (u : Flow). meets ip (fallOf locals a u) (fallOf locals b g) (breaksOf locals (b .breaks)) sh) (sym e)
-      ∙ ap (λ (u : Flow). meets ip (fallOf locals a (a .flow)) (fallOf locals b u) (breaksOf locals (b .breaks)) sh) (sym h)
+      ap (λ (u : Flow). meets ip (fallOf locals (a .state) u) (fallOf locals (b .state) g) (breaksOf locals (b .breaks)) sh) (sym e)
+      ∙ ap (λ (u : Flow). meets ip (fallOf locals (a .state) (a .flow)) (fallOf locals (b .state) u) (breaksOf locals (b .breaks)) sh) (sym h)
 
   -- no end of the second arm: the first's stands
   pub join-first : (r : Outcome) → r .flow ≡ Falls → r .state ≡ a .state → r .breaks ≡ b .breaks → a .flow ≡ Falls → b .flow ≡ Ended →
-      walkedOf locals r sh ≡ meets ip (fallOf locals a (a .flow)) (fallOf locals b (b .flow)) (breaksOf locals (b .breaks)) sh
+      walkedOf locals r sh ≡ meets ip (fallOf locals (a .state) (a .flow)) (fallOf locals (b .state) (b .flow)) (breaksOf locals (b .breaks)) sh
   unfolding meets join-ends fallOf flowOf _>>=_
   join-first r x y z e h =
       ap (flowOf locals r sh) x
@@ -113,7 +114,7 @@ module _ (locals ip : ℕ) (a b : Outcome) (sh : Sheets) where
   -- both ends
   pub join-both : (r : Outcome) → walkedOf locals r sh ≡ meets ip (some (stateOf locals (a .state))) (some (stateOf locals (b .state))) (breaksOf locals (b .breaks)) sh →
       a .flow ≡ Falls → b .flow ≡ Falls →
-      walkedOf locals r sh ≡ meets ip (fallOf locals a (a .flow)) (fallOf locals b (b .flow)) (breaksOf locals (b .breaks)) sh
+      walkedOf locals r sh ≡ meets ip (fallOf locals (a .state) (a .flow)) (fallOf locals (b .state) (b .flow)) (breaksOf locals (b .breaks)) sh
   unfolding fallOf
   join-both r x e h = x ∙ falls-at e h
 
@@ -212,20 +213,6 @@ marked t x ip s h b h′ b′ blind f e p q =
     q ∙ ap (λ (n : ℕ). mark-blind blind (n + ip) b) (sym base) ∙ ap (λ (z : Bool). mark-blind z (chunkIn t x .base + ip) b) e in
     ap (λ (l : List ℕ). sheetsOf l b′) hs
     ∙ ap (λ (l : List ℕ). sheetsOf (set h (chunkIn t x .base + ip) (suc (height (stateOf (x .locals) s)))) l) bs
-
--- ── Straight codes ────────────────────────────────────────────────────────────────────────
-
-pub straight-low : (k : ℕ) → k < 64 → true ≡ straight k
-unfolding straight
-straight-low k h = rw (straight, lt-ltb k 64 h)
-
-pub straight-stream : (k : ℕ) → k ≡ 72 → true ≡ straight k
-unfolding straight
-straight-stream k e = subst (λ (j : ℕ). true ≡ straight j) (sym e) refl
-
-pub straight-else : (k : ℕ) → 64 ≤ k → k ≢ 72 → eqb k 73 ≡ straight k
-unfolding straight
-straight-else k h e = rw (straight, le-ltb k 64 h, ne-eqb k 72 e)
 
 -- ── The Else of an If ─────────────────────────────────────────────────────────────────────
 

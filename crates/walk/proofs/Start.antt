@@ -22,7 +22,8 @@ use Rattle.bytecode.specs.Meaning.{chunkOf, chunksOf, count, sigsOf, localsAt, 
 use Rattle.apply.specs.declared.Ctx.{Ctx}
 use Rattle.apply.specs.Answers.{Of}
 use Rattle.walk.specs.Outcomes.{numbers, pendingOf, breaksOf, flowOf, walkedOf, Open}
-use Rattle.walk.specs.Ready.{sheetsOf, Placed, Ready, chunkIn, Roomy, with-chunk, resultsOf}
+use Rattle.walk.specs.Ready.{Placed, Ready, chunkIn, Roomy, with-chunk, resultsOf}
+use Rattle.stretch.specs.Stretch.{sheetsOf}
 use Rattle.walk.specs.declared.Refusal.{Refusal}
 use Rattle.walk.specs.declared.Flow.{Flow}
 use Rattle.walk.specs.declared.Flow.the-variants.{Refused, Ended, Falls}

@@ -23,10 +23,11 @@ use Rattle.shapes.specs.declared.State.{State}
 use Rattle.shapes.specs.Model.{stateOf, stackOf}
 use Rattle.bytecode.specs.Meaning.{first-op, chunk-base}
 use Rattle.walk.specs.Outcomes.{values-of, numbers, breaksOf, onwardOf, restOf, loopOf, after-loop}
-use Rattle.apply.specs.Answers.{is-none, refusal, resultOf, Examined as Applied}
+use Rattle.apply.specs.Answers.{is-none, refusal, resultOf}
 use Rattle.bytecode.specs.Parts.{Instr-is}
 use Rattle.bytecode.specs.declared.Instr.{Instr}
-use Rattle.walk.specs.Ready.{sheetsOf, chunkIn, instrIn, Examined, markIn, visitIn, straight, leads, Quietly}
+use Rattle.walk.specs.Ready.{chunkIn, instrIn, Examined, markIn, visitIn, leads, Quietly}
+use Rattle.stretch.specs.Stretch.{sheetsOf, straight}
 use Rattle.walk.specs.declared.Refusal.{Refusal}
 use Rattle.walk.specs.declared.Refusal.the-variants.{Instruction, Misplaced}
 use Rattle.walk.specs.declared.Flow.{Flow}
@@ -54,15 +55,6 @@ refused-is locals r e = go (refusal (r .verdict)) e
     go : (o : Option (List ℕ)) → is-none o ≡ false → pass o (stateOf locals (r .state)) ≡ refused (values-of o)
     go none h = absurd (no-false (sym h))
     go (some q) h = refl
-
--- the examination of what stands at ip
-pub examined-by : (t : List ℕ) (x : Ctx) (ip floor : ℕ) (s : State) (i : Instr) → Instr-is t (x .first + ip) i → (r : Step) → Applied t x i ip floor s r → Examined t x ip floor s r
-examined-by t x ip floor s i I r A =
-    record {
-      result = A .result ∙ ap (λ (z : AnyInstr). examine (chunkIn t x) ip floor z (stateOf (x .locals) s)) (I .same);
-      blind = A .blind ∙ ap (λ (z : AnyInstr). is-blind (reading (chunkIn t x) z) (stackOf s)) (I .same);
-      low = A .low;
-    }
 
 -- ── Where it leads ────────────────────────────────────────────────────────────────────────
 

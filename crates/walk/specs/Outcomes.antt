@@ -6,6 +6,7 @@ use Rattle.definition.specs.Basics.{Result, ok, refused, _>>=_}
 use Rattle.definition.specs.Instructions.{Chunk}
 use Rattle.definition.specs.Walk.{State as AnyState, Sheets, Walked, Left as AnyLeft, Breaks as AnyBreaks, no-break, joined, unequal, height, join-ends, last-end, passes, forget}
 use Rattle.theorems.specs.Fuel.{full}
+use Rattle.shapes.specs.declared.State.{State}
 use Rattle.shapes.specs.Model.{stateOf}
 use Rattle.apply.specs.Answers.{refusal}
 use Rattle.walk.specs.declared.Refusal.{Refusal}
@@ -81,10 +82,10 @@ abbrev pub Low : Outcome → Type 0
 Low o = (o .state .height ≤ 64) × (o .breaks .state .height ≤ 64)
 
 -- the state at the end of a stretch
-unfoldable pub fallOf : ℕ → Outcome → Flow → Option AnyState
-fallOf locals o (Refused r) = none
-fallOf locals o Ended = none
-fallOf locals o Falls = some (stateOf locals (o .state))
+unfoldable pub fallOf : ℕ → State → Flow → Option AnyState
+fallOf locals s (Refused r) = none
+fallOf locals s Ended = none
+fallOf locals s Falls = some (stateOf locals s)
 
 -- the ends of two arms of the If at ip, with the breaks and sheets of the one that was walked last
 unfoldable pub meets : ℕ → Option AnyState → Option AnyState → AnyBreaks → Sheets → Result Walked

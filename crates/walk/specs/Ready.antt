@@ -2,6 +2,7 @@
 use mathlib.Core.Path.{_≡_}
 use mathlib.Core.Logic.{_≢_}
 use mathlib.Core.List.{List, [], _∷_}
+use mathlib.Core.Option.{none}
 use Prim.Native.Nat.{ℕ, suc, _+_, _-_, _≤_, _<_}
 use mathlib.Core.Bool.{Bool, true, false, _||_}
 use lib.ListN.{length, getD, set}
@@ -9,8 +10,9 @@ use lib.Dec.{eqb, ltb}
 use Rattle.definition.specs.Instructions.{Chunk, Instr as AnyInstr, Control, onward, stops, returns, resets, endIf, endLoop, ifTo, elseTo, loopTo, breakTo}
 use Rattle.definition.specs.Instructions.{breakIfTo}
 use Rattle.definition.specs.Tests.{is-blind, reading}
-use Rattle.definition.specs.Basics.{Result, ok, refused}
+use Rattle.definition.specs.Basics.{Result, ok, refused, first}
 use Rattle.definition.specs.Walk.{State as AnyState, Sheets, Walked, Left as AnyLeft, no-break, examine, mark, walk-instr, add-break, walk-arms, forget, with-locals}
+use Rattle.definition.specs.Walk.{floor-test, need-test}
 use Rattle.theorems.specs.Fuel.{full}
 use Rattle.shapes.specs.declared.State.{State}
 use Rattle.definition.specs.Nesting.{else-at}
@@ -23,12 +25,10 @@ use Rattle.theorems.specs.Nested.{Arm, Nested}
 use Rattle.bytecode.specs.Meaning.{chunkOf, first-op, op-count, instrAt}
 use Rattle.walk.specs.declared.Walk.{Walk}
 use Rattle.walk.specs.declared.Walk.the-variants.{Accepted, Refused}
-use Rattle.apply.specs.Answers.{Of, resultOf}
+use Rattle.apply.specs.Answers.{Of, resultOf, refusal}
+use Rattle.apply.specs.declared.Verdict.{Verdict}
 use Rattle.walk.specs.declared.Breaks.{Breaks}
 use Rattle.apply.specs.declared.Ctx.{Ctx}
-
-abbrev pub sheetsOf : List ℕ → List ℕ → Sheets
-sheetsOf h b = record { heights = h; blinds = b }
 
 -- The numbers of a nested chunk, and room for it in both sheets.
 pub record Placed (t heights blinds : List ℕ) (x : Ctx) : Type 0 where
@@ -70,10 +70,6 @@ abbrev pub visitIn : List ℕ → Ctx → ℕ → ℕ → ℕ → State → Brea
 visitIn t x ip end floor s b sh k =
     walk-instr (chunkIn t x) (full (chunkIn t x)) ip end floor (stateOf (x .locals) s) (breaksOf (x .locals) b) sh (instrIn t x ip) k
 
--- the number of a code that leads onward and opens nothing
-unfoldable pub straight : ℕ → Bool
-straight code = ltb code 64 || (eqb code 72 || eqb code 73)
-
 -- Where an instruction leads, from its code and first operand.
 unfoldable pub leads : ℕ → ℕ → Control
 leads code a =
@@ -92,6 +88,12 @@ pub record Quietly (x : Ctx) (code ip : ℕ) (s : State) (b : Breaks) (before af
   pub ended : r .out .flow ≡ Ended
   pub breaks : code ≡ 71 → breaksOf (x .locals) (r .out .breaks) ≡ add-break (breaksOf (x .locals) b) (stateOf (x .locals) s)
   pub returns : code ≢ 71 → breaksOf (x .locals) (r .out .breaks) ≡ breaksOf (x .locals) b
+
+-- An instruction that is examined for the height alone: the height is marked, and the tests are 12 and 5.
+pub record Guarded (x : Ctx) (need ip floor height : ℕ) (before after : List ℕ) (v : Verdict) : Type 0 where
+  pub marks : after ≡ set before (x .first + ip) (suc height)
+  pub tests : refusal v ≡ first (floor-test ip floor height need) (need-test ip height need)
+  pub room : refusal v ≡ none → need ≤ height
 
 -- an instruction with its blocks: the walk goes on after it, in the same stretch
 abbrev pub Goes : ℕ → ℕ → Onward → Type 0

@@ -3,7 +3,7 @@ ghost use mathlib.Core.Path.{_≡_};
 ghost use mathlib.Core.Bool.{Bool, true, false};
 ghost use mathlib.Core.Logic.{_≢_};
 ghost use Prim.Native.Nat.{ℕ, suc, _+_, _-_, _≤_, _<_};
-ghost use lib.ListN.{length, set, getD};
+ghost use lib.ListN.{length, set, getD, take};
 ghost use mathlib.Core.List.{[], _∷_};
 ghost use mathlib.Core.Option.{none, some};
 ghost use Rattle.definition.specs.Basics.{ok, refused};
@@ -11,18 +11,20 @@ ghost use Rattle.definition.specs.Instructions.{Chunk, control, stops, breakIfT
 ghost use Rattle.definition.specs.Nesting.{else-at};
 ghost use Rattle.definition.specs.Shapes.{unknown};
 ghost use Rattle.definition.specs.Check.{walk-all};
-ghost use Rattle.definition.specs.Walk.{params, start-locals, walk-chunk, Sheets, forget, with-locals, walk-arms, add-break, join-ends, leave, last-end, mark-blind};
+ghost use Rattle.definition.specs.Walk.{params, start-locals, walk-chunk, Sheets, forget, with-locals, walk-arms, add-break, join-ends, leave, last-end};
 ghost use Rattle.shapes.specs.Model.{stateOf, localsOf, withLocal};
 ghost use Rattle.walk.specs.Outcomes.{breaksOf, walkedOf, restOf, leftOf, elseOf, fallOf, meets, after-last, loopOf, after-loop, Open, Low};
 ghost use Rattle.walk.specs.declared.Flow.the-variants.{Refused};
+ghost use Rattle.walk.specs.declared.Pending.the-variants.{Joined};
 ghost use Rattle.walk.specs.declared.Refusal.the-variants.{Instruction, Misplaced};
 ghost use Rattle.bytecode.specs.Meaning.{first-op, op-count, localsAt, chunkOf, chunksOf, count};
 ghost use Rattle.theorems.specs.Fuel.{full};
-ghost use Rattle.walk.specs.Ready.{sheetsOf, Placed, Ready, chunkIn, instrIn, Examined, markIn, visitIn, straight, leads, Steps, Quietly, Goes, armsIn, lastIn, Roomy, resultsOf};
+ghost use Rattle.stretch.specs.Stretch.{straight, sheetsOf, mark-all, Ran-is};
+ghost use Rattle.walk.specs.Ready.{Placed, Ready, chunkIn, instrIn, Guarded, visitIn, leads, Steps, Quietly, Goes, armsIn, lastIn, Roomy, resultsOf};
 use apply::Ctx;
-use apply::Step;
 use apply::Verdict;
 use shapes::State;
+use stretch::Ran;
 
 // A refusal of the walk: of one instruction, or of a join, with the Rust's fields.
 pub enum Refusal {
@@ -88,64 +90,73 @@ fn add_state(b: Breaks, s: State, locals: usize) -> Breaks
     ensures { λ r. ⌜ (breaksOf locals r ≡ add-break (breaksOf locals b) (stateOf locals s)) × (r .state .height ≤ 64) ⌝ }
 {
     let p = b.pending;
-    let t = b.state;
     match p {
         Pending::Nothing => Breaks {
             pending: Pending::Joined,
             state: s,
         },
-        Pending::Joined => {
-            let x = t.height;
-            let y = s.height;
-            if x == y {
-                let j = t.join(s, locals);
-                return Breaks {
-                    pending: Pending::Joined,
-                    state: j,
-                };
-            }
-            Breaks {
-                pending: Pending::Unequal(x, y),
-                state: t,
-            }
-        }
+        Pending::Joined => join_break(b, s, locals),
         Pending::Unequal(_, _) => b,
     }
 }
 
-// The ends of two arms of the If at ip, of which b was walked last.
-fn join_ends(a: Outcome, b: Outcome, ip: usize, locals: usize) -> Outcome
-    requires { ⌜ (a .state .height ≤ 64) × (b .state .height ≤ 64) × (b .breaks .state .height ≤ 64) × (locals ≤ 32) × Open (a .flow) × Open (b .flow) ⌝ }
-    ensures { λ r. ⌜ ((sh : Sheets) → walkedOf locals r sh ≡ meets ip (fallOf locals a (a .flow)) (fallOf locals b (b .flow)) (breaksOf locals (b .breaks)) sh) × Low r ⌝ }
+// One more break where there are some. Apart from the others, so that its states share their room.
+fn join_break(b: Breaks, s: State, locals: usize) -> Breaks
+    requires { ⌜ (b .state .height ≤ 64) × (s .height ≤ 64) × (locals ≤ 32) × (b .pending ≡ Joined) ⌝ }
+    ensures { λ r. ⌜ (breaksOf locals r ≡ add-break (breaksOf locals b) (stateOf locals s)) × (r .state .height ≤ 64) ⌝ }
 {
-    let f = a.flow;
-    let g = b.flow;
+    let t = b.state;
+    let x = t.height;
+    let y = s.height;
+    if x == y {
+        let j = t.join(s, locals);
+        return Breaks {
+            pending: Pending::Joined,
+            state: j,
+        };
+    }
+    Breaks {
+        pending: Pending::Unequal(x, y),
+        state: t,
+    }
+}
+
+// The ends of two arms of the If at ip: how each was walked and its state, and the breaks of the one that was walked last.
+fn join_ends(f: Flow, s: State, g: Flow, t: State, k: Breaks, ip: usize, locals: usize) -> Outcome
+    requires { ⌜ (s .height ≤ 64) × (t .height ≤ 64) × (k .state .height ≤ 64) × (locals ≤ 32) × Open f × Open g ⌝ }
+    ensures { λ r. ⌜ ((sh : Sheets) → walkedOf locals r sh ≡ meets ip (fallOf locals s f) (fallOf locals t g) (breaksOf locals k) sh) × Low r ⌝ }
+{
     match f {
-        Flow::Refused(_) => b,
-        Flow::Ended => b,
+        Flow::Refused(_) => Outcome {
+            flow: g,
+            state: t,
+            breaks: k,
+        },
+        Flow::Ended => Outcome {
+            flow: g,
+            state: t,
+            breaks: k,
+        },
         Flow::Falls => match g {
-            Flow::Refused(_) => b,
-            Flow::Ended => {
-                let s = a.state;
-                let k = b.breaks;
-                Outcome {
-                    flow: Flow::Falls,
-                    state: s,
-                    breaks: k,
-                }
-            }
-            Flow::Falls => join_states(a, b, ip, locals),
+            Flow::Refused(_) => Outcome {
+                flow: g,
+                state: t,
+                breaks: k,
+            },
+            Flow::Ended => Outcome {
+                flow: Flow::Falls,
+                state: s,
+                breaks: k,
+            },
+            Flow::Falls => join_states(s, t, k, ip, locals),
         },
     }
 }
 
-fn join_states(a: Outcome, b: Outcome, ip: usize, locals: usize) -> Outcome
-    requires { ⌜ (a .state .height ≤ 64) × (b .state .height ≤ 64) × (b .breaks .state .height ≤ 64) × (locals ≤ 32) ⌝ }
-    ensures { λ r. ⌜ ((sh : Sheets) → walkedOf locals r sh ≡ meets ip (some (stateOf locals (a .state))) (some (stateOf locals (b .state))) (breaksOf locals (b .breaks)) sh) × Low r ⌝ }
+fn join_states(s: State, t: State, k: Breaks, ip: usize, locals: usize) -> Outcome
+    requires { ⌜ (s .height ≤ 64) × (t .height ≤ 64) × (k .state .height ≤ 64) × (locals ≤ 32) ⌝ }
+    ensures { λ r. ⌜ ((sh : Sheets) → walkedOf locals r sh ≡ meets ip (some (stateOf locals s)) (some (stateOf locals t)) (breaksOf locals k) sh) × Low r ⌝ }
 {
-    let s = a.state;
-    let t = b.state;
-    let k = b.breaks;
     let x = s.height;
     let y = t.height;
     if x == y {
@@ -255,51 +266,43 @@ fn mark_height(heights: &mut [u8], at: usize, h: usize)
     heights[at] = (h + 1) as u8;
 }
 
-// The blind sheet holds 1 where a flat access met an unknown operand; a mark is never cleared.
-fn mark_blind(blinds: &mut [u8], at: usize, blind: bool)
-    requires { ⌜ at < length (now blinds) ⌝ }
-    ensures { λ r. ⌜ now (blinds .exit) ≡ mark-blind blind at (now (blinds .entry)) ⌝ }
+// The mark and the tests of an If, a BreakIf or a Trap, which looks at the height alone.
+fn guard_at(
+    heights: &mut [u8],
+    x: Ctx,
+    need: usize,
+    ip: usize,
+    floor: usize,
+    height: usize,
+) -> Verdict
+    requires { ⌜ (x .first + x .count ≤ length (now heights)) × (x .first + x .count ≤ 4096) × (ip < x .count) × (floor ≤ 64) × (height ≤ 64) × (need < 4294967296) ⌝ }
+    ensures { λ r. ⌜ Guarded x need ip floor height (now (heights .entry)) (now (heights .exit)) r ⌝ }
 {
-    if blind {
-        blinds[at] = 1;
-    }
+    let first = x.first;
+    mark_height(heights, first + ip, height);
+    apply::check_need(height, need, floor, ip)
 }
 
-// The examination of the instruction at ip, with both sheets marked.
-fn examine_at(
+// The straight instructions from ip on, by the step over a lent state, with both sheets marked.
+fn straight_at(
     t: &[u64],
     heights: &mut [u8],
     blinds: &mut [u8],
     x: Ctx,
     ip: usize,
+    end: usize,
     floor: usize,
     s: State,
-) -> Step
+) -> Ran
     requires { ⌜ Placed (now t) (now heights) (now blinds) x ⌝ }
-    requires { ⌜ (ip < x .count) × (floor ≤ 64) × (s .height ≤ 64) ⌝ }
-    ensures { λ r. ⌜ Examined (now (t .entry)) x ip floor s r × (sheetsOf (now (heights .exit)) (now (blinds .exit)) ≡ markIn (now (t .entry)) x ip s (sheetsOf (now (heights .entry)) (now (blinds .entry)))) ⌝ }
+    requires { ⌜ (ip ≤ end) × (end ≤ x .count) × (floor ≤ 64) × (s .height ≤ 64) ⌝ }
+    ensures { λ r. ⌜ Ran-is (now (t .entry)) x ip end floor s r × (length (r .marks) ≡ 64) × (sheetsOf (now (heights .exit)) (now (blinds .exit)) ≡ mark-all (x .first + ip) (take (r .next - ip) (r .marks)) (sheetsOf (now (heights .entry)) (now (blinds .entry)))) ⌝ }
 {
     let first = x.first;
-    let i = bytecode::instr_at(t, first + ip);
-    let r = apply::step_value(t, x, i, ip, floor, s);
-    let h = s.height;
-    let blind = r.blind;
-    mark_height(heights, first + ip, h);
-    mark_blind(blinds, first + ip, blind);
+    let r = stretch::step_value(t, x, ip, end, floor, s);
+    let marks = r.marks;
+    stretch::mark_all(heights, blinds, first + ip, marks, r.next - ip);
     r
-}
-
-// Whether a code leads onward and opens nothing.
-fn is_straight(code: u8) -> bool
-    ensures { λ r. ⌜ r ≡ straight code ⌝ }
-{
-    if code < 64 {
-        return true;
-    }
-    if code == 72 {
-        return true;
-    }
-    code == 73
 }
 
 // The form of the If at ip.
@@ -382,11 +385,14 @@ fn trap_at(
     b: Breaks,
 ) -> Onward
     requires { ⌜ Placed (now t) (now heights) (now blinds) x ⌝ }
-    requires { ⌜ (ip < x .count) × (floor ≤ 64) × (s .height ≤ 64) × (b .state .height ≤ 64) ⌝ }
+    requires { ⌜ (ip < x .count) × (floor ≤ 64) × (s .height ≤ 64) × (b .state .height ≤ 64) × (control (instrIn (now t) x ip) ≡ stops) ⌝ }
     ensures { λ r. ⌜ ((end : ℕ) → visitIn (now (t .entry)) x ip end floor s b (sheetsOf (now (heights .entry)) (now (blinds .entry))) stops ≡ restOf (chunkIn (now (t .entry)) x) (x .locals) end floor r (sheetsOf (now (heights .exit)) (now (blinds .exit)))) × Steps ip r ⌝ }
 {
-    let e = examine_at(t, heights, blinds, x, ip, floor, s);
-    let v = e.verdict;
+    let first = x.first;
+    let h = s.height;
+    let i = bytecode::instr_at(t, first + ip);
+    let e = bytecode::op_depth_effect(i, x.index_trap, x.host_trap);
+    let v = guard_at(heights, x, e.need as usize, ip, floor, h);
     if v.passed() {
         return Onward {
             next: ip + 1,
@@ -413,14 +419,15 @@ fn break_if_at(
     b: Breaks,
 ) -> Onward
     requires { ⌜ Placed (now t) (now heights) (now blinds) x ⌝ }
-    requires { ⌜ (ip < x .count) × (floor ≤ 64) × (s .height ≤ 64) × (b .state .height ≤ 64) ⌝ }
+    requires { ⌜ (ip < x .count) × (floor ≤ 64) × (s .height ≤ 64) × (b .state .height ≤ 64) × (control (instrIn (now t) x ip) ≡ breakIfTo target) ⌝ }
     ensures { λ r. ⌜ ((end : ℕ) → visitIn (now (t .entry)) x ip end floor s b (sheetsOf (now (heights .entry)) (now (blinds .entry))) (breakIfTo target) ≡ restOf (chunkIn (now (t .entry)) x) (x .locals) end floor r (sheetsOf (now (heights .exit)) (now (blinds .exit)))) × Steps ip r ⌝ }
 {
     let locals = x.locals;
-    let e = examine_at(t, heights, blinds, x, ip, floor, s);
-    let v = e.verdict;
+    let h = s.height;
+    let v = guard_at(heights, x, 1, ip, floor, h);
     if v.passed() {
-        let u = e.state;
+        let mut u = s;
+        u.height = h - 1;
         let k = add_state(b, u, locals);
         return Onward {
             next: ip + 1,
@@ -529,8 +536,8 @@ pub fn interp_region(
         let i = bytecode::instr_at(t, first + ip);
         let code = i.code;
         let a = i.a;
-        if is_straight(code) {
-            let e = examine_at(t, heights, blinds, x, ip, floor, s);
+        if stretch::is_straight(code) {
+            let e = straight_at(t, heights, blinds, x, ip, end, floor, s);
             let v = e.verdict;
             if v.passed() {} else {
                 return Outcome {
@@ -540,7 +547,7 @@ pub fn interp_region(
                 };
             }
             s = e.state;
-            ip += 1;
+            ip = e.next;
         } else {
             let n = block_at(
                 t,
@@ -557,18 +564,26 @@ pub fn interp_region(
             );
             let o = n.out;
             let f = o.flow;
-            match f {
-                Flow::Falls => {}
-                Flow::Ended => {
-                    return o;
-                }
-                Flow::Refused(_) => {
-                    return o;
-                }
-            }
             s = o.state;
             b = o.breaks;
             ip = n.next;
+            match f {
+                Flow::Falls => {}
+                Flow::Ended => {
+                    return Outcome {
+                        flow: f,
+                        state: s,
+                        breaks: b,
+                    };
+                }
+                Flow::Refused(_) => {
+                    return Outcome {
+                        flow: f,
+                        state: s,
+                        breaks: b,
+                    };
+                }
+            }
         }
     }
     Outcome {
@@ -620,12 +635,13 @@ fn if_at(
     requires { ⌜ (ip < end) × (control (instrIn (now t) x ip) ≡ ifTo target) ⌝ }
     ensures { λ r. ⌜ (restOf (chunkIn (now (t .entry)) x) (x .locals) end floor r (sheetsOf (now (heights .exit)) (now (blinds .exit))) ≡ visitIn (now (t .entry)) x ip end floor s b (sheetsOf (now (heights .entry)) (now (blinds .entry))) (ifTo target)) × Goes ip end r ⌝ }
 {
-    let e = examine_at(t, heights, blinds, x, ip, floor, s);
-    let v = e.verdict;
+    let h = s.height;
+    let v = guard_at(heights, x, 1, ip, floor, h);
     if v.passed() {} else {
         return refused_at(v, ip, s, b);
     }
-    let u = e.state;
+    let mut u = s;
+    u.height = h - 1;
     arms_at(t, heights, blinds, x, target, ip, end, floor, u, b)
 }
 
@@ -681,13 +697,10 @@ fn one_arm(
             out: a,
         };
     }
+    let reached = a.state;
     let k = a.breaks;
-    let skip = Outcome {
-        flow: Flow::Falls,
-        state: s,
-        breaks: k,
-    };
-    let m = join_ends(a, skip, ip, locals);
+    let falls = Flow::Falls;
+    let m = join_ends(f, reached, falls, s, k, ip, locals);
     Onward {
         next: target + 1,
         out: m,
@@ -730,7 +743,10 @@ fn two_arms(
             out: e,
         };
     }
-    let m = join_ends(a, e, ip, locals);
+    let first = a.state;
+    let second = e.state;
+    let last = e.breaks;
+    let m = join_ends(f, first, g, second, last, ip, locals);
     Onward {
         next: closer + 1,
         out: m,

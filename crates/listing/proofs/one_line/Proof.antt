@@ -10,6 +10,7 @@ use Rattle.bytecode.specs.Tables.{cap, size, stride, Appended}
 use Rattle.listing.specs.Forms.{form-kind, may-stand, place-after, own-limit}
 use Rattle.listing.specs.Step.{StepIs, limit-of, step-unread, step-misplaced, step-close, step-full, step-many, step-locals, step-stored}
 use borrow.Author.Needs.{needs}
+use native.Mathlib.Omega.{arith}
 use Rattle.listing.proofs.one_line.Statement.{statement}
 use Rattle.listing.proofs.one_line.Tie as tie
 use Rattle.listing.proofs.one_line.Reads as reads
@@ -22,24 +23,23 @@ use Rattle.listing.proofs.own_limit.Reads as own-limit-reads
 use Rattle.listing.proofs.place_after.Reads as place-after-reads
 use Rattle.listing.proofs.read_entry.Reads as read-entry-reads
 use Rattle.listing.proofs.row_words.Reads as row-words-reads
-use native.Mathlib.Omega.{arith}
-
--- src/lib.rt:718:9
-read-entry-requires : tie.Need-read-entry-requires
-read-entry-requires c κs = search needs
 
 zero-of : (r : ℕ) → r ≤ 3 → (r ≡ 1 → ⊥) → (r ≡ 2 → ⊥) → (r ≡ 3 → ⊥) → r ≡ 0
 zero-of r l a b d = omega arith
 
--- src/lib.rt:720:9
+-- src/lib.rt:929:9
+read-entry-requires : tie.Need-read-entry-requires
+read-entry-requires c κs = search needs
+
+-- src/lib.rt:931:9
 returns : tie.Need-returns
 returns c = (λ n q p held sound. step-unread n q (c .before .before .before .before .before .args .s .now) (c .before .before .read-entry .result) (c .before .before .read-entry .ensures) (c .if1 .taken) _, c .before .before .before .before .before .pre .0)
 
--- src/lib.rt:722:9
+-- src/lib.rt:933:9
 may-stand-requires : tie.Need-may-stand-requires
 may-stand-requires c κs = search needs
 
--- src/lib.rt:723:9
+-- src/lib.rt:934:9
 returns-2 : tie.Need-returns-2
 returns-2 c = (
   λ n q p held sound.
@@ -51,15 +51,15 @@ returns-2 c = (
   c .before .before .before .before .before .before .before .pre .0,
 )
 
--- src/lib.rt:725:9
+-- src/lib.rt:936:9
 kind-of-requires : tie.Need-kind-of-requires
 kind-of-requires c κs = search needs
 
--- src/lib.rt:727:25
+-- src/lib.rt:938:25
 place-after-requires : tie.Need-place-after-requires
 place-after-requires c κs = search needs
 
--- src/lib.rt:727:9
+-- src/lib.rt:938:9
 returns-3 : tie.Need-returns-3
 returns-3 c = (
   λ n q p held sound.
@@ -72,19 +72,19 @@ returns-3 c = (
   c .before .before .before .before .before .before .before .before .before .before .pre .0,
 )
 
--- src/lib.rt:729:8
+-- src/lib.rt:940:8
 cap-of-requires : tie.Need-cap-of-requires
 cap-of-requires c κs = search needs
 
--- src/lib.rt:729:31
+-- src/lib.rt:940:31
 mul-if4 : tie.Need-mul-if4
 mul-if4 c = search needs
 
--- src/lib.rt:729:31
+-- src/lib.rt:940:31
 slice-read-if4 : tie.Need-slice-read-if4
 slice-read-if4 c = search needs
 
--- src/lib.rt:730:9
+-- src/lib.rt:941:9
 returns-4 : tie.Need-returns-4
 returns-4 c = (
   λ n q p held sound.
@@ -98,11 +98,11 @@ returns-4 c = (
   c .before .before .before .before .before .before .before .before .before .before .before .before .pre .0,
 )
 
--- src/lib.rt:732:9
+-- src/lib.rt:943:9
 own-limit-requires : tie.Need-own-limit-requires
 own-limit-requires c κs = search needs
 
--- src/lib.rt:734:9
+-- src/lib.rt:945:9
 returns-5 : tie.Need-returns-5
 returns-5 c = (
   λ n q p held sound.
@@ -117,7 +117,7 @@ returns-5 c = (
   c .before .before .before .before .before .before .before .before .before .before .before .before .before .before .pre .0,
 )
 
--- src/lib.rt:737:9
+-- src/lib.rt:948:9
 returns-6 : tie.Need-returns-6
 returns-6 c = (
   λ n q p held sound.
@@ -132,31 +132,31 @@ returns-6 c = (
   c .before .before .before .before .before .before .before .before .before .before .before .before .before .before .before .pre .0,
 )
 
--- src/lib.rt:739:28
+-- src/lib.rt:950:28
 slice-read-row-words : tie.Need-slice-read-row-words
 slice-read-row-words c = search needs
 
--- src/lib.rt:739:34
+-- src/lib.rt:950:34
 slice-read-row-words-2 : tie.Need-slice-read-row-words-2
 slice-read-row-words-2 c = search needs
 
--- src/lib.rt:739:15
+-- src/lib.rt:950:15
 row-words-requires : tie.Need-row-words-requires
 row-words-requires c κs = search needs
 
--- src/lib.rt:740:5
+-- src/lib.rt:951:5
 append-requires : tie.Need-append-requires
 append-requires c κs = search needs
 
--- src/lib.rt:741:14
+-- src/lib.rt:952:14
 place-after-requires-2 : tie.Need-place-after-requires-2
 place-after-requires-2 c κs = search needs
 
--- src/lib.rt:714:1
+-- src/lib.rt:925:1
 same-length : tie.Need-same-length
 same-length c = search needs
 
--- src/lib.rt:714:1
+-- src/lib.rt:925:1
 returns-7 : tie.Need-returns-7
 unfolding limit-of
 returns-7 c = (

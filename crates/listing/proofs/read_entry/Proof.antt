@@ -17,26 +17,26 @@ use Rattle.listing.proofs.line_entry.Reads as line-entry-reads
 use Rattle.listing.proofs.op_entry.Reads as op-entry-reads
 use Rattle.listing.proofs.text.Reads as text-reads
 
--- src/lib.rt:563:38
+-- src/lib.rt:734:38
 slice-aggregate-text : tie.Need-slice-aggregate-text
 slice-aggregate-text c = search needs
 
--- src/lib.rt:563:27
+-- src/lib.rt:734:27
 text-requires : tie.Need-text-requires
 text-requires c κs = search needs
 
 enum-told : tie.Need-enum-told
 enum-told c = search needs
 
--- src/lib.rt:564:9
+-- src/lib.rt:735:9
 enum-told-2 : tie.Need-enum-told-2
 enum-told-2 c = search needs
 
--- src/lib.rt:564:9
+-- src/lib.rt:735:9
 line-entry-requires : tie.Need-line-entry-requires
 line-entry-requires c κs = search needs
 
--- src/lib.rt:564:9
+-- src/lib.rt:735:9
 returns : tie.Need-returns
 unfolding bytes
 returns c =
@@ -44,16 +44,16 @@ returns c =
     (sym (no-op (c .before .before .before .before .before .before .args .s .now) (sym (ap (after (c .before .before .before .before .before .before .args .s .now)) (sym (c .before .enum-told2 .given .1)) ∙ c .before .before .before .text .ensures))))
     (c .line-entry .ensures)
 
--- src/lib.rt:566:5
+-- src/lib.rt:737:5
 op-entry-requires : tie.Need-op-entry-requires
 unfolding bytes
 op-entry-requires c κs =
     let f : some (drop (c .enum-told .given .0 .1 .0) (c .before .before .before .before .before .args .s .now)) ≡ strip (40 ∷ 111 ∷ 112 ∷ 32 ∷ []) (c .before .before .before .before .before .args .s .now) =
     ap (after (c .before .before .before .before .before .args .s .now)) (sym (c .enum-told .given .1)) ∙ c .before .before .text .ensures in
     let q = strip-rest (40 ∷ 111 ∷ 112 ∷ 32 ∷ []) (c .before .before .before .before .before .args .s .now) _ f in
-    (sym f ∙ ap some (q .0), q .1)
+    (sym f ∙ ap some (q .0), q .1, c .before .before .before .before .before .pre .1)
 
--- src/lib.rt:559:1
+-- src/lib.rt:730:1
 returns-2 : tie.Need-returns-2
 unfolding bytes
 returns-2 c =

@@ -1,3 +1,4 @@
+use Rattle.stretch.specs.Stretch.{sheetsOf}
 -- The walkers of a stretch, of an If's arms and of a loop, which call each other.
 use mathlib.Core.Path.{_≡_, refl, sym, ap, _∙_, subst}
 use mathlib.Core.Option.{Option, none, some}
@@ -16,7 +17,10 @@ use Rattle.walk.specs.declared.Flow.{Flow}
 use Rattle.walk.proofs.Codes as Codes
 use Rattle.walk.proofs.Laws as Laws
 use Rattle.walk.proofs.Steps as Steps
+use Rattle.walk.proofs.Guards as Guards
+use Rattle.apply.proofs.Tests.{is-none-eq}
 use Rattle.walk.proofs.Cycle as Cycle
+use Rattle.walk.proofs.Stretches as Stretches
 use borrow.Author.Needs.{needs}
 use Prim.Native.Nat.{ℕ, _<_}
 use borrow.Fn.Kinds.{In}
@@ -53,9 +57,10 @@ use Rattle.bytecode.proofs.instr_at.Reads as instr-at-reads
 use Rattle.shapes.proofs.State.covers_locals.Reads as covers-locals-reads
 use Rattle.shapes.proofs.State.join_locals.Reads as join-locals-reads
 use Rattle.shapes.proofs.State.same_stack.Reads as same-stack-reads
-use Rattle.walk.proofs.examine_at.Reads as examine-at-reads
+use Rattle.walk.proofs.straight_at.Reads as straight-at-reads
+use Rattle.walk.proofs.guard_at.Reads as guard-at-reads
 use Rattle.walk.proofs.invalidate_written_locals.Reads as invalidate-written-locals-reads
-use Rattle.walk.proofs.is_straight.Reads as is-straight-reads
+use Rattle.stretch.proofs.is_straight.Reads as is-straight-reads
 use Rattle.walk.proofs.join_ends.Reads as join-ends-reads
 use Rattle.walk.proofs.last_end.Reads as last-end-reads
 use Rattle.walk.proofs.layout_of.Reads as layout-of-reads
@@ -163,7 +168,7 @@ abbrev two-arms-below : ℕ → In 3 two-arms-kinds.ps
 two-arms-below t =
     and 3 two-arms-kinds.ps (falls 3 two-arms-kinds.ps _<_ μ-two-arms t) two-arms.Pre
 
--- src/lib.rt:649:9
+-- src/lib.rt:689:9
 arms-at-layout-of-requires : (t : ℕ) → arms-at-lts.Need-layout-of-requires (
   layout-of-reads.Asked,
   layout-of-reads.Learnt,
@@ -174,7 +179,7 @@ arms-at-layout-of-requires : (t : ℕ) → arms-at-lts.Need-layout-of-requires (
 ) (arms-at-at t) arms-at.Post
 arms-at-layout-of-requires t c κs = (c .before .before .before .pre .1 .0 .placed .of .first, c .before .before .before .pre .1 .0 .placed .of .count, c .before .before .before .pre .1 .0 .placed .of .within, Cycle.inside (c .before .before .before .args .t .now) (c .before .before .before .args .heights .now) (c .before .before .before .args .blinds .now) (c .before .before .before .args .x) (c .before .before .before .args .ip) (c .before .before .before .args .end) (c .before .before .before .args .floor) _ _ (c .before .before .before .pre .1 .0) (c .before .before .before .pre .1 .1 .0))
 
--- src/lib.rt:651:38
+-- src/lib.rt:691:38
 arms-at-enum-told : (t : ℕ) → arms-at-lts.Need-enum-told (
   layout-of-reads.Asked,
   layout-of-reads.Learnt,
@@ -185,7 +190,7 @@ arms-at-enum-told : (t : ℕ) → arms-at-lts.Need-enum-told (
 ) (arms-at-at t) arms-at.Post
 arms-at-enum-told t c = search needs
 
--- src/lib.rt:651:27
+-- src/lib.rt:691:27
 arms-at-one-arm-requires : (t : ℕ) → arms-at-lts.Need-one-arm-requires (
   layout-of-reads.Asked,
   layout-of-reads.Learnt,
@@ -197,7 +202,7 @@ arms-at-one-arm-requires : (t : ℕ) → arms-at-lts.Need-one-arm-requires (
 unfolding Outcomes.elseOf
 arms-at-one-arm-requires t c κs = (omega (arith, c .before .before .before .before .before .before .before .before .pre .0, (c .before .before .before .before .before .before .before .before .pre .1 .1 .0)), (c .before .before .before .before .before .before .before .before .pre .1 .0, ((c .before .before .before .before .before .before .before .before .pre .1 .1 .0), (c .before .before .before .before .before .before .before .before .pre .1 .1 .1), (ap Outcomes.elseOf (sym (c .before .before .enum-told .given .1)) ∙ c .before .before .before .before .layout-of .ensures))))
 
--- src/lib.rt:652:25
+-- src/lib.rt:692:25
 arms-at-enum-known-l : (t : ℕ) → arms-at-lts.Need-enum-known-l (
   layout-of-reads.Asked,
   layout-of-reads.Learnt,
@@ -208,7 +213,7 @@ arms-at-enum-known-l : (t : ℕ) → arms-at-lts.Need-enum-known-l (
 ) (arms-at-at t) arms-at.Post
 arms-at-enum-known-l t c = search needs
 
--- src/lib.rt:653:13
+-- src/lib.rt:693:13
 arms-at-two-arms-requires : (t : ℕ) → arms-at-lts.Need-two-arms-requires (
   layout-of-reads.Asked,
   layout-of-reads.Learnt,
@@ -220,7 +225,7 @@ arms-at-two-arms-requires : (t : ℕ) → arms-at-lts.Need-two-arms-requires (
 unfolding Outcomes.elseOf
 arms-at-two-arms-requires t c κs = (omega (arith, c .before .before .before .before .before .before .before .before .before .pre .0, (c .before .before .before .before .before .before .before .before .before .pre .1 .1 .0)), (c .before .before .before .before .before .before .before .before .before .pre .1 .0, ((c .before .before .before .before .before .before .before .before .before .pre .1 .1 .0), (c .before .before .before .before .before .before .before .before .before .pre .1 .1 .1), (ap Outcomes.elseOf (sym (c .before .before .before .l .given .1)) ∙ c .before .before .before .before .before .layout-of .ensures))))
 
--- src/lib.rt:633:1
+-- src/lib.rt:673:1
 arms-at-same-length : (t : ℕ) → arms-at-lts.Need-same-length (
   layout-of-reads.Asked,
   layout-of-reads.Learnt,
@@ -231,7 +236,7 @@ arms-at-same-length : (t : ℕ) → arms-at-lts.Need-same-length (
 ) (arms-at-at t) arms-at.Post
 arms-at-same-length t c = search needs
 
--- src/lib.rt:633:1
+-- src/lib.rt:673:1
 arms-at-same-length-2 : (t : ℕ) → arms-at-lts.Need-same-length-2 (
   layout-of-reads.Asked,
   layout-of-reads.Learnt,
@@ -242,7 +247,7 @@ arms-at-same-length-2 : (t : ℕ) → arms-at-lts.Need-same-length-2 (
 ) (arms-at-at t) arms-at.Post
 arms-at-same-length-2 t c = search needs
 
--- src/lib.rt:633:1
+-- src/lib.rt:673:1
 arms-at-returns : (t : ℕ) → arms-at-lts.Need-returns (
   layout-of-reads.Asked,
   layout-of-reads.Learnt,
@@ -253,7 +258,7 @@ arms-at-returns : (t : ℕ) → arms-at-lts.Need-returns (
 ) (arms-at-at t) arms-at.Post
 arms-at-returns t c = c .before .before .before .before .one-arm .ensures
 
--- src/lib.rt:633:1
+-- src/lib.rt:673:1
 arms-at-same-length-3 : (t : ℕ) → arms-at-lts.Need-same-length-3 (
   layout-of-reads.Asked,
   layout-of-reads.Learnt,
@@ -264,7 +269,7 @@ arms-at-same-length-3 : (t : ℕ) → arms-at-lts.Need-same-length-3 (
 ) (arms-at-at t) arms-at.Post
 arms-at-same-length-3 t c = search needs
 
--- src/lib.rt:633:1
+-- src/lib.rt:673:1
 arms-at-same-length-4 : (t : ℕ) → arms-at-lts.Need-same-length-4 (
   layout-of-reads.Asked,
   layout-of-reads.Learnt,
@@ -275,7 +280,7 @@ arms-at-same-length-4 : (t : ℕ) → arms-at-lts.Need-same-length-4 (
 ) (arms-at-at t) arms-at.Post
 arms-at-same-length-4 t c = search needs
 
--- src/lib.rt:633:1
+-- src/lib.rt:673:1
 arms-at-returns-2 : (t : ℕ) → arms-at-lts.Need-returns-2 (
   layout-of-reads.Asked,
   layout-of-reads.Learnt,
@@ -286,7 +291,7 @@ arms-at-returns-2 : (t : ℕ) → arms-at-lts.Need-returns-2 (
 ) (arms-at-at t) arms-at.Post
 arms-at-returns-2 t c = c .before .before .before .before .two-arms .ensures
 
--- src/lib.rt:600:15
+-- src/lib.rt:639:15
 block-at-loop-at-requires : (t : ℕ) → block-at-lts.Need-loop-at-requires (
   loop-at-below t,
   loop-at.Post,
@@ -298,7 +303,7 @@ block-at-loop-at-requires : (t : ℕ) → block-at-lts.Need-loop-at-requires (
 unfolding Ready.leads
 block-at-loop-at-requires t c κs = (omega (arith, c .before .before .before .before .before .before .pre .0, (c .before .before .before .before .before .before .pre .1 .1 .0)), (c .before .before .before .before .before .before .pre .1 .0, ((c .before .before .before .before .before .before .pre .1 .1 .0), (c .before .before .before .before .before .before .pre .1 .1 .3) ∙ ap (λ (k : ℕ). Ready.leads k (c .before .before .before .before .before .before .args .target)) (c .before .before .match .keys1))))
 
--- src/lib.rt:601:15
+-- src/lib.rt:640:15
 block-at-if-at-requires : (t : ℕ) → block-at-lts.Need-if-at-requires (
   loop-at-below t,
   loop-at.Post,
@@ -310,7 +315,7 @@ block-at-if-at-requires : (t : ℕ) → block-at-lts.Need-if-at-requires (
 unfolding Ready.leads
 block-at-if-at-requires t c κs = (omega (arith, c .before .before .before .before .before .before .pre .0, (c .before .before .before .before .before .before .pre .1 .1 .0)), (c .before .before .before .before .before .before .pre .1 .0, ((c .before .before .before .before .before .before .pre .1 .1 .0), (c .before .before .before .before .before .before .pre .1 .1 .3) ∙ ap (λ (k : ℕ). Ready.leads k (c .before .before .before .before .before .before .args .target)) (c .before .before .match .keys2))))
 
--- src/lib.rt:602:14
+-- src/lib.rt:641:14
 block-at-leaf-at-requires : (t : ℕ) → block-at-lts.Need-leaf-at-requires (
   loop-at-below t,
   loop-at.Post,
@@ -321,7 +326,7 @@ block-at-leaf-at-requires : (t : ℕ) → block-at-lts.Need-leaf-at-requires (
 ) (block-at-at t) block-at.Post
 block-at-leaf-at-requires t c κs = (c .before .before .before .before .before .before .pre .1 .0 .placed, ((Cycle.inside (c .before .before .before .before .before .before .args .t .now) (c .before .before .before .before .before .before .args .heights .now) (c .before .before .before .before .before .before .args .blinds .now) (c .before .before .before .before .before .before .args .x) (c .before .before .before .before .before .before .args .ip) (c .before .before .before .before .before .before .args .end) (c .before .before .before .before .before .before .args .floor) _ _ (c .before .before .before .before .before .before .pre .1 .0) (c .before .before .before .before .before .before .pre .1 .1 .0), c .before .before .before .before .before .before .pre .1 .0 .floor-low, c .before .before .before .before .before .before .pre .1 .0 .height-low, c .before .before .before .before .before .before .pre .1 .0 .breaks-low, c .before .before .before .before .before .before .pre .1 .1 .1, c .before .before .before .before .before .before .pre .1 .1 .2, c .before .before .match .rest .1, c .before .before .match .rest .0 .1), (c .before .before .before .before .before .before .pre .1 .1 .3)))
 
--- src/lib.rt:582:1
+-- src/lib.rt:621:1
 block-at-same-length : (t : ℕ) → block-at-lts.Need-same-length (
   loop-at-below t,
   loop-at.Post,
@@ -332,7 +337,7 @@ block-at-same-length : (t : ℕ) → block-at-lts.Need-same-length (
 ) (block-at-at t) block-at.Post
 block-at-same-length t c = search needs
 
--- src/lib.rt:582:1
+-- src/lib.rt:621:1
 block-at-same-length-2 : (t : ℕ) → block-at-lts.Need-same-length-2 (
   loop-at-below t,
   loop-at.Post,
@@ -343,7 +348,7 @@ block-at-same-length-2 : (t : ℕ) → block-at-lts.Need-same-length-2 (
 ) (block-at-at t) block-at.Post
 block-at-same-length-2 t c = search needs
 
--- src/lib.rt:582:1
+-- src/lib.rt:621:1
 block-at-returns : (t : ℕ) → block-at-lts.Need-returns (
   loop-at-below t,
   loop-at.Post,
@@ -353,9 +358,9 @@ block-at-returns : (t : ℕ) → block-at-lts.Need-returns (
   leaf-at-reads.Learnt,
 ) (block-at-at t) block-at.Post
 unfolding Ready.leads
-block-at-returns t c = (c .before .before .before .before .loop-at .ensures .0 ∙ ap (λ (k : ℕ). Ready.visitIn (c .before .before .before .before .before .before .before .before .before .before .before .args .t .now) (c .before .before .before .before .before .before .before .before .before .before .before .args .x) (c .before .before .before .before .before .before .before .before .before .before .before .args .ip) (c .before .before .before .before .before .before .before .before .before .before .before .args .end) (c .before .before .before .before .before .before .before .before .before .before .before .args .floor) (c .before .before .before .before .before .before .before .before .before .before .before .args .s) (c .before .before .before .before .before .before .before .before .before .before .before .args .b) (Ready.sheetsOf (c .before .before .before .before .before .before .before .before .before .before .before .args .heights .now) (c .before .before .before .before .before .before .before .before .before .before .before .args .blinds .now)) (Ready.leads k (c .before .before .before .before .before .before .before .before .before .before .before .args .target))) (sym (c .before .before .before .before .before .before .before .match .keys1)), c .before .before .before .before .loop-at .ensures .1)
+block-at-returns t c = (c .before .before .before .before .loop-at .ensures .0 ∙ ap (λ (k : ℕ). Ready.visitIn (c .before .before .before .before .before .before .before .before .before .before .before .args .t .now) (c .before .before .before .before .before .before .before .before .before .before .before .args .x) (c .before .before .before .before .before .before .before .before .before .before .before .args .ip) (c .before .before .before .before .before .before .before .before .before .before .before .args .end) (c .before .before .before .before .before .before .before .before .before .before .before .args .floor) (c .before .before .before .before .before .before .before .before .before .before .before .args .s) (c .before .before .before .before .before .before .before .before .before .before .before .args .b) (sheetsOf (c .before .before .before .before .before .before .before .before .before .before .before .args .heights .now) (c .before .before .before .before .before .before .before .before .before .before .before .args .blinds .now)) (Ready.leads k (c .before .before .before .before .before .before .before .before .before .before .before .args .target))) (sym (c .before .before .before .before .before .before .before .match .keys1)), c .before .before .before .before .loop-at .ensures .1)
 
--- src/lib.rt:582:1
+-- src/lib.rt:621:1
 block-at-same-length-3 : (t : ℕ) → block-at-lts.Need-same-length-3 (
   loop-at-below t,
   loop-at.Post,
@@ -366,7 +371,7 @@ block-at-same-length-3 : (t : ℕ) → block-at-lts.Need-same-length-3 (
 ) (block-at-at t) block-at.Post
 block-at-same-length-3 t c = search needs
 
--- src/lib.rt:582:1
+-- src/lib.rt:621:1
 block-at-same-length-4 : (t : ℕ) → block-at-lts.Need-same-length-4 (
   loop-at-below t,
   loop-at.Post,
@@ -377,7 +382,7 @@ block-at-same-length-4 : (t : ℕ) → block-at-lts.Need-same-length-4 (
 ) (block-at-at t) block-at.Post
 block-at-same-length-4 t c = search needs
 
--- src/lib.rt:582:1
+-- src/lib.rt:621:1
 block-at-returns-2 : (t : ℕ) → block-at-lts.Need-returns-2 (
   loop-at-below t,
   loop-at.Post,
@@ -387,9 +392,9 @@ block-at-returns-2 : (t : ℕ) → block-at-lts.Need-returns-2 (
   leaf-at-reads.Learnt,
 ) (block-at-at t) block-at.Post
 unfolding Ready.leads
-block-at-returns-2 t c = (c .before .before .before .before .if-at .ensures .0 ∙ ap (λ (k : ℕ). Ready.visitIn (c .before .before .before .before .before .before .before .before .before .before .before .args .t .now) (c .before .before .before .before .before .before .before .before .before .before .before .args .x) (c .before .before .before .before .before .before .before .before .before .before .before .args .ip) (c .before .before .before .before .before .before .before .before .before .before .before .args .end) (c .before .before .before .before .before .before .before .before .before .before .before .args .floor) (c .before .before .before .before .before .before .before .before .before .before .before .args .s) (c .before .before .before .before .before .before .before .before .before .before .before .args .b) (Ready.sheetsOf (c .before .before .before .before .before .before .before .before .before .before .before .args .heights .now) (c .before .before .before .before .before .before .before .before .before .before .before .args .blinds .now)) (Ready.leads k (c .before .before .before .before .before .before .before .before .before .before .before .args .target))) (sym (c .before .before .before .before .before .before .before .match .keys2)), c .before .before .before .before .if-at .ensures .1)
+block-at-returns-2 t c = (c .before .before .before .before .if-at .ensures .0 ∙ ap (λ (k : ℕ). Ready.visitIn (c .before .before .before .before .before .before .before .before .before .before .before .args .t .now) (c .before .before .before .before .before .before .before .before .before .before .before .args .x) (c .before .before .before .before .before .before .before .before .before .before .before .args .ip) (c .before .before .before .before .before .before .before .before .before .before .before .args .end) (c .before .before .before .before .before .before .before .before .before .before .before .args .floor) (c .before .before .before .before .before .before .before .before .before .before .before .args .s) (c .before .before .before .before .before .before .before .before .before .before .before .args .b) (sheetsOf (c .before .before .before .before .before .before .before .before .before .before .before .args .heights .now) (c .before .before .before .before .before .before .before .before .before .before .before .args .blinds .now)) (Ready.leads k (c .before .before .before .before .before .before .before .before .before .before .before .args .target))) (sym (c .before .before .before .before .before .before .before .match .keys2)), c .before .before .before .before .if-at .ensures .1)
 
--- src/lib.rt:582:1
+-- src/lib.rt:621:1
 block-at-same-length-5 : (t : ℕ) → block-at-lts.Need-same-length-5 (
   loop-at-below t,
   loop-at.Post,
@@ -400,7 +405,7 @@ block-at-same-length-5 : (t : ℕ) → block-at-lts.Need-same-length-5 (
 ) (block-at-at t) block-at.Post
 block-at-same-length-5 t c = search needs
 
--- src/lib.rt:582:1
+-- src/lib.rt:621:1
 block-at-same-length-6 : (t : ℕ) → block-at-lts.Need-same-length-6 (
   loop-at-below t,
   loop-at.Post,
@@ -411,7 +416,7 @@ block-at-same-length-6 : (t : ℕ) → block-at-lts.Need-same-length-6 (
 ) (block-at-at t) block-at.Post
 block-at-same-length-6 t c = search needs
 
--- src/lib.rt:582:1
+-- src/lib.rt:621:1
 block-at-returns-3 : (t : ℕ) → block-at-lts.Need-returns-3 (
   loop-at-below t,
   loop-at.Post,
@@ -422,10 +427,10 @@ block-at-returns-3 : (t : ℕ) → block-at-lts.Need-returns-3 (
 ) (block-at-at t) block-at.Post
 block-at-returns-3 t c = (sym (c .before .before .before .before .leaf-at .ensures .0 (c .before .before .before .before .before .before .before .before .before .before .before .args .end)), (omega (arith, c .before .before .before .before .leaf-at .ensures .1 .0), omega (arith, c .before .before .before .before .leaf-at .ensures .1 .0, (c .before .before .before .before .before .before .before .before .before .before .before .pre .1 .1 .0)), c .before .before .before .before .leaf-at .ensures .1 .1))
 
--- src/lib.rt:623:9
-if-at-examine-at-requires : (t : ℕ) → if-at-lts.Need-examine-at-requires (
-  examine-at-reads.Asked,
-  examine-at-reads.Learnt,
+-- src/lib.rt:663:9
+if-at-guard-at-requires : (t : ℕ) → if-at-lts.Need-guard-at-requires (
+  guard-at-reads.Asked,
+  guard-at-reads.Learnt,
   passed-reads.Asked,
   passed-reads.Learnt,
   refused-at-reads.Asked,
@@ -433,12 +438,12 @@ if-at-examine-at-requires : (t : ℕ) → if-at-lts.Need-examine-at-requires (
   arms-at-below t,
   arms-at.Post,
 ) (if-at-at t) if-at.Post
-if-at-examine-at-requires t c κs = (c .before .before .before .before .before .pre .1 .0 .placed, (Cycle.inside (c .before .before .before .before .before .args .t .now) (c .before .before .before .before .before .args .heights .now) (c .before .before .before .before .before .args .blinds .now) (c .before .before .before .before .before .args .x) (c .before .before .before .before .before .args .ip) (c .before .before .before .before .before .args .end) (c .before .before .before .before .before .args .floor) _ _ (c .before .before .before .before .before .pre .1 .0) (c .before .before .before .before .before .pre .1 .1 .0), c .before .before .before .before .before .pre .1 .0 .floor-low, c .before .before .before .before .before .pre .1 .0 .height-low))
+if-at-guard-at-requires t c κs = (c .before .before .before .before .pre .1 .0 .placed .heights-long, c .before .before .before .before .pre .1 .0 .placed .of .within, Cycle.inside (c .before .before .before .before .args .t .now) (c .before .before .before .before .args .heights .now) (c .before .before .before .before .args .blinds .now) (c .before .before .before .before .args .x) (c .before .before .before .before .args .ip) (c .before .before .before .before .args .end) (c .before .before .before .before .args .floor) _ _ (c .before .before .before .before .pre .1 .0) (c .before .before .before .before .pre .1 .1 .0), c .before .before .before .before .pre .1 .0 .floor-low, c .before .before .before .before .pre .1 .0 .height-low, omega arith)
 
--- src/lib.rt:625:8
+-- src/lib.rt:664:8
 if-at-passed-requires : (t : ℕ) → if-at-lts.Need-passed-requires (
-  examine-at-reads.Asked,
-  examine-at-reads.Learnt,
+  guard-at-reads.Asked,
+  guard-at-reads.Learnt,
   passed-reads.Asked,
   passed-reads.Learnt,
   refused-at-reads.Asked,
@@ -448,10 +453,10 @@ if-at-passed-requires : (t : ℕ) → if-at-lts.Need-passed-requires (
 ) (if-at-at t) if-at.Post
 if-at-passed-requires t c κs = search needs
 
--- src/lib.rt:626:9
+-- src/lib.rt:665:9
 if-at-refused-at-requires : (t : ℕ) → if-at-lts.Need-refused-at-requires (
-  examine-at-reads.Asked,
-  examine-at-reads.Learnt,
+  guard-at-reads.Asked,
+  guard-at-reads.Learnt,
   passed-reads.Asked,
   passed-reads.Learnt,
   refused-at-reads.Asked,
@@ -459,12 +464,12 @@ if-at-refused-at-requires : (t : ℕ) → if-at-lts.Need-refused-at-requires (
   arms-at-below t,
   arms-at.Post,
 ) (if-at-at t) if-at.Post
-if-at-refused-at-requires t c κs = omega (arith, Cycle.inside (c .before .before .before .before .before .before .before .before .before .before .before .before .args .t .now) (c .before .before .before .before .before .before .before .before .before .before .before .before .args .heights .now) (c .before .before .before .before .before .before .before .before .before .before .before .before .args .blinds .now) (c .before .before .before .before .before .before .before .before .before .before .before .before .args .x) (c .before .before .before .before .before .before .before .before .before .before .before .before .args .ip) (c .before .before .before .before .before .before .before .before .before .before .before .before .args .end) (c .before .before .before .before .before .before .before .before .before .before .before .before .args .floor) _ _ (c .before .before .before .before .before .before .before .before .before .before .before .before .pre .1 .0) (c .before .before .before .before .before .before .before .before .before .before .before .before .pre .1 .1 .0), c .before .before .before .before .before .before .before .before .before .before .before .before .pre .1 .0 .placed .of .within)
+if-at-refused-at-requires t c κs = omega (arith, Cycle.inside (c .before .before .before .before .before .before .before .before .before .args .t .now) (c .before .before .before .before .before .before .before .before .before .args .heights .now) (c .before .before .before .before .before .before .before .before .before .args .blinds .now) (c .before .before .before .before .before .before .before .before .before .args .x) (c .before .before .before .before .before .before .before .before .before .args .ip) (c .before .before .before .before .before .before .before .before .before .args .end) (c .before .before .before .before .before .before .before .before .before .args .floor) _ _ (c .before .before .before .before .before .before .before .before .before .pre .1 .0) (c .before .before .before .before .before .before .before .before .before .pre .1 .1 .0), c .before .before .before .before .before .before .before .before .before .pre .1 .0 .placed .of .within)
 
--- src/lib.rt:626:9
+-- src/lib.rt:665:9
 if-at-same-length : (t : ℕ) → if-at-lts.Need-same-length (
-  examine-at-reads.Asked,
-  examine-at-reads.Learnt,
+  guard-at-reads.Asked,
+  guard-at-reads.Learnt,
   passed-reads.Asked,
   passed-reads.Learnt,
   refused-at-reads.Asked,
@@ -474,10 +479,49 @@ if-at-same-length : (t : ℕ) → if-at-lts.Need-same-length (
 ) (if-at-at t) if-at.Post
 if-at-same-length t c = search needs
 
--- src/lib.rt:626:9
+-- src/lib.rt:665:9
+if-at-returns : (t : ℕ) → if-at-lts.Need-returns (
+  guard-at-reads.Asked,
+  guard-at-reads.Learnt,
+  passed-reads.Asked,
+  passed-reads.Learnt,
+  refused-at-reads.Asked,
+  refused-at-reads.Learnt,
+  arms-at-below t,
+  arms-at.Post,
+) (if-at-at t) if-at.Post
+if-at-returns t c = (sym (Steps.visit-refused (c .before .before .before .before .before .before .before .before .before .before .args .t .now) (c .before .before .before .before .before .before .before .before .before .before .args .x) (c .before .before .before .before .before .before .before .before .before .before .args .ip) (c .before .before .before .before .before .before .before .before .before .before .args .floor) (c .before .before .before .before .before .before .before .before .before .before .args .s) (c .before .before .before .before .before .before .before .before .before .before .args .b) _ (Guards.guardedStep (c .before .before .before .before .before .guard-at .result) 1 (c .before .before .before .before .before .before .before .before .before .before .args .s)) (Guards.guard-examined (c .before .before .before .before .before .before .before .before .before .before .args .t .now) (c .before .before .before .before .before .before .before .before .before .before .args .x) (c .before .before .before .before .before .before .before .before .before .before .args .ip) (c .before .before .before .before .before .before .before .before .before .before .args .floor) (c .before .before .before .before .before .before .before .before .before .before .args .s) 1 _ _ (c .before .before .before .before .before .guard-at .result) (c .before .before .before .before .before .guard-at .ensures) (c .before .before .before .before .before .before .before .before .before .before .pre .1 .1 .1) tt (Guards.one-needed (Ready.chunkIn (c .before .before .before .before .before .before .before .before .before .before .args .t .now) (c .before .before .before .before .before .before .before .before .before .before .args .x)) (Ready.instrIn (c .before .before .before .before .before .before .before .before .before .before .args .t .now) (c .before .before .before .before .before .before .before .before .before .before .args .x) (c .before .before .before .before .before .before .before .before .before .before .args .ip)) (c .before .before .before .before .before .before .before .before .before .before .pre .1 .1 .1) refl tt) (c .before .before .before .before .before .before .before .before .before .before .pre .1 .0 .height-low)) (ifTo (c .before .before .before .before .before .before .before .before .before .before .args .target)) tt (sym (c .before .before .passed .ensures) ∙ c .before .if1 .left) (c .before .before .before .before .before .before .before .before .before .before .args .end) (c .refused-at .result) _ (c .refused-at .ensures .1)), (omega (arith, c .refused-at .ensures .0), omega (arith, c .refused-at .ensures .0, (c .before .before .before .before .before .before .before .before .before .before .pre .1 .1 .0)), (subst (λ (z : State). z .height ≤ 64) (sym (c .refused-at .ensures .2)) (c .before .before .before .before .before .before .before .before .before .before .pre .1 .0 .height-low), subst (λ (z : Breaks). z .state .height ≤ 64) (sym (c .refused-at .ensures .3)) (c .before .before .before .before .before .before .before .before .before .before .pre .1 .0 .breaks-low))))
+
+-- src/lib.rt:668:16
+if-at-sub-u : (t : ℕ) → if-at-lts.Need-sub-u (
+  guard-at-reads.Asked,
+  guard-at-reads.Learnt,
+  passed-reads.Asked,
+  passed-reads.Learnt,
+  refused-at-reads.Asked,
+  refused-at-reads.Learnt,
+  arms-at-below t,
+  arms-at.Post,
+) (if-at-at t) if-at.Post
+if-at-sub-u t c = c .before .before .before .before .guard-at .ensures .room (is-none-eq _ (sym (c .before .passed .ensures) ∙ c .if1 .taken))
+
+-- src/lib.rt:669:5
+if-at-arms-at-requires : (t : ℕ) → if-at-lts.Need-arms-at-requires (
+  guard-at-reads.Asked,
+  guard-at-reads.Learnt,
+  passed-reads.Asked,
+  passed-reads.Learnt,
+  refused-at-reads.Asked,
+  refused-at-reads.Learnt,
+  arms-at-below t,
+  arms-at.Post,
+) (if-at-at t) if-at.Post
+if-at-arms-at-requires t c κs = (omega (arith, c .before .before .before .before .before .before .before .before .before .before .before .pre .0, (c .before .before .before .before .before .before .before .before .before .before .before .pre .1 .1 .0)), (record { placed = Cycle.placed-by (c .before .before .before .before .before .before .before .before .before .before .before .args .t .now) (c .before .before .before .before .before .before .before .before .before .before .before .args .heights .now) (c .before .before .before .before .before .before .before .before .before .before .before .args .blinds .now) _ (c .before .before .before .before .before .before .before .before .before .before .before .args .blinds .now) (c .before .before .before .before .before .before .before .before .before .before .before .args .x) (c .before .before .before .before .before .before .guard-at .kept .0) refl (c .before .before .before .before .before .before .before .before .before .before .before .pre .1 .0 .placed); from = c .before .before .before .before .before .before .before .before .before .before .before .pre .1 .0 .from; arm = c .before .before .before .before .before .before .before .before .before .before .before .pre .1 .0 .arm; after = c .before .before .before .before .before .before .before .before .before .before .before .pre .1 .0 .after; before = c .before .before .before .before .before .before .before .before .before .before .before .pre .1 .0 .before; floor-low = c .before .before .before .before .before .before .before .before .before .before .before .pre .1 .0 .floor-low; height-low = omega (arith, c .before .before .before .before .before .before .before .before .before .before .before .pre .1 .0 .height-low); breaks-low = c .before .before .before .before .before .before .before .before .before .before .before .pre .1 .0 .breaks-low }, ((c .before .before .before .before .before .before .before .before .before .before .before .pre .1 .1 .0), (c .before .before .before .before .before .before .before .before .before .before .before .pre .1 .1 .1))))
+
+-- src/lib.rt:646:1
 if-at-same-length-2 : (t : ℕ) → if-at-lts.Need-same-length-2 (
-  examine-at-reads.Asked,
-  examine-at-reads.Learnt,
+  guard-at-reads.Asked,
+  guard-at-reads.Learnt,
   passed-reads.Asked,
   passed-reads.Learnt,
   refused-at-reads.Asked,
@@ -487,36 +531,10 @@ if-at-same-length-2 : (t : ℕ) → if-at-lts.Need-same-length-2 (
 ) (if-at-at t) if-at.Post
 if-at-same-length-2 t c = search needs
 
--- src/lib.rt:626:9
-if-at-returns : (t : ℕ) → if-at-lts.Need-returns (
-  examine-at-reads.Asked,
-  examine-at-reads.Learnt,
-  passed-reads.Asked,
-  passed-reads.Learnt,
-  refused-at-reads.Asked,
-  refused-at-reads.Learnt,
-  arms-at-below t,
-  arms-at.Post,
-) (if-at-at t) if-at.Post
-if-at-returns t c = (sym (Steps.visit-refused (c .before .before .before .before .before .before .before .before .before .before .before .before .before .args .t .now) (c .before .before .before .before .before .before .before .before .before .before .before .before .before .args .x) (c .before .before .before .before .before .before .before .before .before .before .before .before .before .args .ip) (c .before .before .before .before .before .before .before .before .before .before .before .before .before .args .floor) (c .before .before .before .before .before .before .before .before .before .before .before .before .before .args .s) (c .before .before .before .before .before .before .before .before .before .before .before .before .before .args .b) _ (c .before .before .before .before .before .before .before .examine-at .result) (c .before .before .before .before .before .before .before .examine-at .ensures .0) (ifTo (c .before .before .before .before .before .before .before .before .before .before .before .before .before .args .target)) tt (sym (c .before .before .passed .ensures) ∙ c .before .if1 .left) (c .before .before .before .before .before .before .before .before .before .before .before .before .before .args .end) (c .refused-at .result) _ (c .refused-at .ensures .1)), (omega (arith, c .refused-at .ensures .0), omega (arith, c .refused-at .ensures .0, (c .before .before .before .before .before .before .before .before .before .before .before .before .before .pre .1 .1 .0)), (subst (λ (z : State). z .height ≤ 64) (sym (c .refused-at .ensures .2)) (c .before .before .before .before .before .before .before .before .before .before .before .before .before .pre .1 .0 .height-low), subst (λ (z : Breaks). z .state .height ≤ 64) (sym (c .refused-at .ensures .3)) (c .before .before .before .before .before .before .before .before .before .before .before .before .before .pre .1 .0 .breaks-low))))
-
--- src/lib.rt:629:5
-if-at-arms-at-requires : (t : ℕ) → if-at-lts.Need-arms-at-requires (
-  examine-at-reads.Asked,
-  examine-at-reads.Learnt,
-  passed-reads.Asked,
-  passed-reads.Learnt,
-  refused-at-reads.Asked,
-  refused-at-reads.Learnt,
-  arms-at-below t,
-  arms-at.Post,
-) (if-at-at t) if-at.Post
-if-at-arms-at-requires t c κs = (omega (arith, c .before .before .before .before .before .before .before .before .before .before .before .before .before .before .before .pre .0, (c .before .before .before .before .before .before .before .before .before .before .before .before .before .before .before .pre .1 .1 .0)), (record { placed = Cycle.placed-by (c .before .before .before .before .before .before .before .before .before .before .before .before .before .before .before .args .t .now) (c .before .before .before .before .before .before .before .before .before .before .before .before .before .before .before .args .heights .now) (c .before .before .before .before .before .before .before .before .before .before .before .before .before .before .before .args .blinds .now) _ _ (c .before .before .before .before .before .before .before .before .before .before .before .before .before .before .before .args .x) (c .before .before .before .before .before .before .before .before .before .examine-at .kept .1 .0) (c .before .before .before .before .before .before .before .before .before .examine-at .kept .1 .1 .0) (c .before .before .before .before .before .before .before .before .before .before .before .before .before .before .before .pre .1 .0 .placed); from = c .before .before .before .before .before .before .before .before .before .before .before .before .before .before .before .pre .1 .0 .from; arm = c .before .before .before .before .before .before .before .before .before .before .before .before .before .before .before .pre .1 .0 .arm; after = c .before .before .before .before .before .before .before .before .before .before .before .before .before .before .before .pre .1 .0 .after; before = c .before .before .before .before .before .before .before .before .before .before .before .before .before .before .before .pre .1 .0 .before; floor-low = c .before .before .before .before .before .before .before .before .before .before .before .before .before .before .before .pre .1 .0 .floor-low; height-low = c .before .before .before .before .before .before .before .before .before .examine-at .ensures .0 .low; breaks-low = c .before .before .before .before .before .before .before .before .before .before .before .before .before .before .before .pre .1 .0 .breaks-low }, ((c .before .before .before .before .before .before .before .before .before .before .before .before .before .before .before .pre .1 .1 .0), (c .before .before .before .before .before .before .before .before .before .before .before .before .before .before .before .pre .1 .1 .1))))
-
--- src/lib.rt:607:1
+-- src/lib.rt:646:1
 if-at-same-length-3 : (t : ℕ) → if-at-lts.Need-same-length-3 (
-  examine-at-reads.Asked,
-  examine-at-reads.Learnt,
+  guard-at-reads.Asked,
+  guard-at-reads.Learnt,
   passed-reads.Asked,
   passed-reads.Learnt,
   refused-at-reads.Asked,
@@ -526,23 +544,10 @@ if-at-same-length-3 : (t : ℕ) → if-at-lts.Need-same-length-3 (
 ) (if-at-at t) if-at.Post
 if-at-same-length-3 t c = search needs
 
--- src/lib.rt:607:1
-if-at-same-length-4 : (t : ℕ) → if-at-lts.Need-same-length-4 (
-  examine-at-reads.Asked,
-  examine-at-reads.Learnt,
-  passed-reads.Asked,
-  passed-reads.Learnt,
-  refused-at-reads.Asked,
-  refused-at-reads.Learnt,
-  arms-at-below t,
-  arms-at.Post,
-) (if-at-at t) if-at.Post
-if-at-same-length-4 t c = search needs
-
--- src/lib.rt:607:1
+-- src/lib.rt:646:1
 if-at-returns-2 : (t : ℕ) → if-at-lts.Need-returns-2 (
-  examine-at-reads.Asked,
-  examine-at-reads.Learnt,
+  guard-at-reads.Asked,
+  guard-at-reads.Learnt,
   passed-reads.Asked,
   passed-reads.Learnt,
   refused-at-reads.Asked,
@@ -550,7 +555,7 @@ if-at-returns-2 : (t : ℕ) → if-at-lts.Need-returns-2 (
   arms-at-below t,
   arms-at.Post,
 ) (if-at-at t) if-at.Post
-if-at-returns-2 t c = (Cycle.if-passed (c .before .before .before .before .before .before .before .before .before .before .before .before .before .before .before .before .before .before .before .before .args .t .now) (c .before .before .before .before .before .before .before .before .before .before .before .before .before .before .before .before .before .before .before .before .args .x) (c .before .before .before .before .before .before .before .before .before .before .before .before .before .before .before .before .before .before .before .before .args .target) (c .before .before .before .before .before .before .before .before .before .before .before .before .before .before .before .before .before .before .before .before .args .ip) (c .before .before .before .before .before .before .before .before .before .before .before .before .before .before .before .before .before .before .before .before .args .end) (c .before .before .before .before .before .before .before .before .before .before .before .before .before .before .before .before .before .before .before .before .args .floor) (c .before .before .before .before .before .before .before .before .before .before .before .before .before .before .before .before .before .before .before .before .args .s) (c .before .before .before .before .before .before .before .before .before .before .before .before .before .before .before .before .before .before .before .before .args .b) (c .before .before .before .before .before .before .before .before .before .before .before .before .before .before .before .before .before .before .before .before .args .heights .now) (c .before .before .before .before .before .before .before .before .before .before .before .before .before .before .before .before .before .before .before .before .args .blinds .now) _ _ (c .before .before .before .before .before .before .before .before .before .before .before .before .before .before .examine-at .result) (c .before .before .before .before .before .before .before .before .before .before .before .before .before .before .examine-at .ensures .0) (sym (c .before .before .before .before .before .before .before .before .before .passed .ensures) ∙ c .before .before .before .before .before .before .before .before .if1 .taken) (c .before .before .before .before .before .before .before .before .before .before .before .before .before .before .examine-at .ensures .1) (c .before .before .before .before .arms-at .result) _ (c .before .before .before .before .arms-at .ensures .0), c .before .before .before .before .arms-at .ensures .1)
+if-at-returns-2 t c = (Cycle.if-passed (c .before .before .before .before .before .before .before .before .before .before .before .before .before .before .before .before .args .t .now) (c .before .before .before .before .before .before .before .before .before .before .before .before .before .before .before .before .args .x) (c .before .before .before .before .before .before .before .before .before .before .before .before .before .before .before .before .args .target) (c .before .before .before .before .before .before .before .before .before .before .before .before .before .before .before .before .args .ip) (c .before .before .before .before .before .before .before .before .before .before .before .before .before .before .before .before .args .end) (c .before .before .before .before .before .before .before .before .before .before .before .before .before .before .before .before .args .floor) (c .before .before .before .before .before .before .before .before .before .before .before .before .before .before .before .before .args .s) (c .before .before .before .before .before .before .before .before .before .before .before .before .before .before .before .before .args .b) (c .before .before .before .before .before .before .before .before .before .before .before .before .before .before .before .before .args .heights .now) (c .before .before .before .before .before .before .before .before .before .before .before .before .before .before .before .before .args .blinds .now) _ _ (Guards.guardedStep (c .before .before .before .before .before .before .before .before .before .before .before .guard-at .result) 1 (c .before .before .before .before .before .before .before .before .before .before .before .before .before .before .before .before .args .s)) (Guards.guard-examined (c .before .before .before .before .before .before .before .before .before .before .before .before .before .before .before .before .args .t .now) (c .before .before .before .before .before .before .before .before .before .before .before .before .before .before .before .before .args .x) (c .before .before .before .before .before .before .before .before .before .before .before .before .before .before .before .before .args .ip) (c .before .before .before .before .before .before .before .before .before .before .before .before .before .before .before .before .args .floor) (c .before .before .before .before .before .before .before .before .before .before .before .before .before .before .before .before .args .s) 1 _ _ (c .before .before .before .before .before .before .before .before .before .before .before .guard-at .result) (c .before .before .before .before .before .before .before .before .before .before .before .guard-at .ensures) (c .before .before .before .before .before .before .before .before .before .before .before .before .before .before .before .before .pre .1 .1 .1) tt (Guards.one-needed (Ready.chunkIn (c .before .before .before .before .before .before .before .before .before .before .before .before .before .before .before .before .args .t .now) (c .before .before .before .before .before .before .before .before .before .before .before .before .before .before .before .before .args .x)) (Ready.instrIn (c .before .before .before .before .before .before .before .before .before .before .before .before .before .before .before .before .args .t .now) (c .before .before .before .before .before .before .before .before .before .before .before .before .before .before .before .before .args .x) (c .before .before .before .before .before .before .before .before .before .before .before .before .before .before .before .before .args .ip)) (c .before .before .before .before .before .before .before .before .before .before .before .before .before .before .before .before .pre .1 .1 .1) refl tt) (c .before .before .before .before .before .before .before .before .before .before .before .before .before .before .before .before .pre .1 .0 .height-low)) (sym (c .before .before .before .before .before .before .before .before .passed .ensures) ∙ c .before .before .before .before .before .before .before .if1 .taken) (Guards.guard-marked (c .before .before .before .before .before .before .before .before .before .before .before .before .before .before .before .before .args .t .now) (c .before .before .before .before .before .before .before .before .before .before .before .before .before .before .before .before .args .x) (c .before .before .before .before .before .before .before .before .before .before .before .before .before .before .before .before .args .ip) (c .before .before .before .before .before .before .before .before .before .before .before .before .before .before .before .before .args .floor) (c .before .before .before .before .before .before .before .before .before .before .before .before .before .before .before .before .args .s) 1 _ _ (c .before .before .before .before .before .before .before .before .before .before .before .guard-at .result) (c .before .before .before .before .before .before .before .before .before .before .before .guard-at .ensures) (c .before .before .before .before .before .before .before .before .before .before .before .before .before .before .before .before .pre .1 .1 .1) tt (Guards.one-needed (Ready.chunkIn (c .before .before .before .before .before .before .before .before .before .before .before .before .before .before .before .before .args .t .now) (c .before .before .before .before .before .before .before .before .before .before .before .before .before .before .before .before .args .x)) (Ready.instrIn (c .before .before .before .before .before .before .before .before .before .before .before .before .before .before .before .before .args .t .now) (c .before .before .before .before .before .before .before .before .before .before .before .before .before .before .before .before .args .x) (c .before .before .before .before .before .before .before .before .before .before .before .before .before .before .before .before .args .ip)) (c .before .before .before .before .before .before .before .before .before .before .before .before .before .before .before .before .pre .1 .1 .1) refl tt) (c .before .before .before .before .before .before .before .before .before .before .before .before .before .before .before .before .pre .1 .0 .height-low) (c .before .before .before .before .before .before .before .before .before .before .before .before .before .before .before .before .args .blinds .now) (c .before .before .before .before .before .before .before .before .before .before .before .before .before .before .before .before .pre .1 .0 .placed .of .first)) (c .before .before .before .before .arms-at .result) _ (c .before .before .before .before .arms-at .ensures .0), c .before .before .before .before .arms-at .ensures .1)
 
 abbrev interp-region-Inv-loop : interp-region-lts.InvT-loop
 interp-region-Inv-loop t heights₀ blinds₀ x start end floor first ip₀ s₀ b₀ heights blinds ip s b = Cycle.Walking t heights₀ blinds₀ x ip₀ end floor s₀ b₀ heights blinds ip s b
@@ -558,14 +563,14 @@ interp-region-Inv-loop t heights₀ blinds₀ x start end floor first ip₀ s₀
 abbrev interp-region-μ-loop : interp-region-lts.MeasureT-loop
 interp-region-μ-loop t heights₀ blinds₀ x start end floor first ip₀ s₀ b₀ heights blinds ip s b = end - ip
 
--- src/lib.rt:528:5
+-- src/lib.rt:559:5
 interp-region-loop-holds : (t : ℕ) → interp-region-lts.Need-loop-holds (
   instr-at-reads.Asked,
   instr-at-reads.Learnt,
   is-straight-reads.Asked,
   is-straight-reads.Learnt,
-  examine-at-reads.Asked,
-  examine-at-reads.Learnt,
+  straight-at-reads.Asked,
+  straight-at-reads.Learnt,
   passed-reads.Asked,
   passed-reads.Learnt,
   block-at-below t,
@@ -573,14 +578,14 @@ interp-region-loop-holds : (t : ℕ) → interp-region-lts.Need-loop-holds (
 ) (interp-region-at t) interp-region.Post interp-region-Inv-loop interp-region-μ-loop
 interp-region-loop-holds t c = record { ready = c .before .before .before .pre .1; onward = omega arith; heights-same = refl; blinds-same = refl; on = refl }
 
--- src/lib.rt:529:39
+-- src/lib.rt:560:39
 interp-region-add-instr-at : (t : ℕ) → interp-region-lts.Need-add-instr-at (
   instr-at-reads.Asked,
   instr-at-reads.Learnt,
   is-straight-reads.Asked,
   is-straight-reads.Learnt,
-  examine-at-reads.Asked,
-  examine-at-reads.Learnt,
+  straight-at-reads.Asked,
+  straight-at-reads.Learnt,
   passed-reads.Asked,
   passed-reads.Learnt,
   block-at-below t,
@@ -588,14 +593,14 @@ interp-region-add-instr-at : (t : ℕ) → interp-region-lts.Need-add-instr-at (
 ) (interp-region-at t) interp-region.Post interp-region-Inv-loop interp-region-μ-loop
 interp-region-add-instr-at t c = omega (arith, Cycle.inside (c .before .before .before .before .before .args .t .now) (c .before .loop .heights) (c .before .loop .blinds) (c .before .before .before .before .before .args .x) (c .before .loop .ip) (c .before .before .before .before .before .args .end) (c .before .before .before .before .before .args .floor) _ _ ((c .before .loop .inv) .ready) (c .loop-test .taken), c .before .before .before .before .before .pre .1 .placed .of .within)
 
--- src/lib.rt:529:13
+-- src/lib.rt:560:13
 interp-region-instr-at-requires : (t : ℕ) → interp-region-lts.Need-instr-at-requires (
   instr-at-reads.Asked,
   instr-at-reads.Learnt,
   is-straight-reads.Asked,
   is-straight-reads.Learnt,
-  examine-at-reads.Asked,
-  examine-at-reads.Learnt,
+  straight-at-reads.Asked,
+  straight-at-reads.Learnt,
   passed-reads.Asked,
   passed-reads.Learnt,
   block-at-below t,
@@ -603,14 +608,14 @@ interp-region-instr-at-requires : (t : ℕ) → interp-region-lts.Need-instr-at-
 ) (interp-region-at t) interp-region.Post interp-region-Inv-loop interp-region-μ-loop
 interp-region-instr-at-requires t c κs = omega (arith, Cycle.inside (c .before .before .before .before .before .args .t .now) (c .before .loop .heights) (c .before .loop .blinds) (c .before .before .before .before .before .args .x) (c .before .loop .ip) (c .before .before .before .before .before .args .end) (c .before .before .before .before .before .args .floor) _ _ ((c .before .loop .inv) .ready) (c .loop-test .taken), c .before .before .before .before .before .pre .1 .placed .of .within)
 
--- src/lib.rt:532:12
+-- src/lib.rt:563:12
 interp-region-is-straight-requires : (t : ℕ) → interp-region-lts.Need-is-straight-requires (
   instr-at-reads.Asked,
   instr-at-reads.Learnt,
   is-straight-reads.Asked,
   is-straight-reads.Learnt,
-  examine-at-reads.Asked,
-  examine-at-reads.Learnt,
+  straight-at-reads.Asked,
+  straight-at-reads.Learnt,
   passed-reads.Asked,
   passed-reads.Learnt,
   block-at-below t,
@@ -618,29 +623,29 @@ interp-region-is-straight-requires : (t : ℕ) → interp-region-lts.Need-is-str
 ) (interp-region-at t) interp-region.Post interp-region-Inv-loop interp-region-μ-loop
 interp-region-is-straight-requires t c κs = search needs
 
--- src/lib.rt:533:17
-interp-region-examine-at-requires : (t : ℕ) → interp-region-lts.Need-examine-at-requires (
+-- src/lib.rt:564:17
+interp-region-straight-at-requires : (t : ℕ) → interp-region-lts.Need-straight-at-requires (
   instr-at-reads.Asked,
   instr-at-reads.Learnt,
   is-straight-reads.Asked,
   is-straight-reads.Learnt,
-  examine-at-reads.Asked,
-  examine-at-reads.Learnt,
+  straight-at-reads.Asked,
+  straight-at-reads.Learnt,
   passed-reads.Asked,
   passed-reads.Learnt,
   block-at-below t,
   block-at.Post,
 ) (interp-region-at t) interp-region.Post interp-region-Inv-loop interp-region-μ-loop
-interp-region-examine-at-requires t c κs = ((c .before .before .before .before .before .before .loop .inv) .ready .placed, (Cycle.inside (c .before .before .before .before .before .before .before .before .before .before .args .t .now) (c .before .before .before .before .before .before .loop .heights) (c .before .before .before .before .before .before .loop .blinds) (c .before .before .before .before .before .before .before .before .before .before .args .x) (c .before .before .before .before .before .before .loop .ip) (c .before .before .before .before .before .before .before .before .before .before .args .end) (c .before .before .before .before .before .before .before .before .before .before .args .floor) _ _ ((c .before .before .before .before .before .before .loop .inv) .ready) (c .before .before .before .before .before .loop-test .taken), c .before .before .before .before .before .before .before .before .before .before .pre .1 .floor-low, (c .before .before .before .before .before .before .loop .inv) .ready .height-low))
+interp-region-straight-at-requires t c κs = (c .before .before .before .before .before .before .loop .inv .ready .placed, (omega (arith, c .before .before .before .before .before .loop-test .taken), Stretches.end-inside _ _ _ _ _ _ _ _ _ (c .before .before .before .before .before .before .loop .inv .ready), c .before .before .before .before .before .before .before .before .before .before .pre .1 .floor-low, c .before .before .before .before .before .before .loop .inv .ready .height-low))
 
--- src/lib.rt:535:16
+-- src/lib.rt:566:16
 interp-region-passed-requires : (t : ℕ) → interp-region-lts.Need-passed-requires (
   instr-at-reads.Asked,
   instr-at-reads.Learnt,
   is-straight-reads.Asked,
   is-straight-reads.Learnt,
-  examine-at-reads.Asked,
-  examine-at-reads.Learnt,
+  straight-at-reads.Asked,
+  straight-at-reads.Learnt,
   passed-reads.Asked,
   passed-reads.Learnt,
   block-at-below t,
@@ -648,14 +653,14 @@ interp-region-passed-requires : (t : ℕ) → interp-region-lts.Need-passed-requ
 ) (interp-region-at t) interp-region.Post interp-region-Inv-loop interp-region-μ-loop
 interp-region-passed-requires t c κs = search needs
 
--- src/lib.rt:536:17
+-- src/lib.rt:567:17
 interp-region-same-length : (t : ℕ) → interp-region-lts.Need-same-length (
   instr-at-reads.Asked,
   instr-at-reads.Learnt,
   is-straight-reads.Asked,
   is-straight-reads.Learnt,
-  examine-at-reads.Asked,
-  examine-at-reads.Learnt,
+  straight-at-reads.Asked,
+  straight-at-reads.Learnt,
   passed-reads.Asked,
   passed-reads.Learnt,
   block-at-below t,
@@ -663,14 +668,14 @@ interp-region-same-length : (t : ℕ) → interp-region-lts.Need-same-length (
 ) (interp-region-at t) interp-region.Post interp-region-Inv-loop interp-region-μ-loop
 interp-region-same-length t c = search needs
 
--- src/lib.rt:536:17
+-- src/lib.rt:567:17
 interp-region-same-length-2 : (t : ℕ) → interp-region-lts.Need-same-length-2 (
   instr-at-reads.Asked,
   instr-at-reads.Learnt,
   is-straight-reads.Asked,
   is-straight-reads.Learnt,
-  examine-at-reads.Asked,
-  examine-at-reads.Learnt,
+  straight-at-reads.Asked,
+  straight-at-reads.Learnt,
   passed-reads.Asked,
   passed-reads.Learnt,
   block-at-below t,
@@ -678,74 +683,59 @@ interp-region-same-length-2 : (t : ℕ) → interp-region-lts.Need-same-length-2
 ) (interp-region-at t) interp-region.Post interp-region-Inv-loop interp-region-μ-loop
 interp-region-same-length-2 t c = search needs
 
--- src/lib.rt:536:17
+-- src/lib.rt:567:17
 interp-region-returns : (t : ℕ) → interp-region-lts.Need-returns (
   instr-at-reads.Asked,
   instr-at-reads.Learnt,
   is-straight-reads.Asked,
   is-straight-reads.Learnt,
-  examine-at-reads.Asked,
-  examine-at-reads.Learnt,
+  straight-at-reads.Asked,
+  straight-at-reads.Learnt,
   passed-reads.Asked,
   passed-reads.Learnt,
   block-at-below t,
   block-at.Post,
 ) (interp-region-at t) interp-region.Post interp-region-Inv-loop interp-region-μ-loop
-interp-region-returns t c = (Cycle.walking-refused (c .before .before .before .before .before .before .before .before .before .before .before .before .before .before .before .before .before .args .t .now) (c .before .before .before .before .before .before .before .before .before .before .before .before .before .before .before .before .before .args .heights .now) (c .before .before .before .before .before .before .before .before .before .before .before .before .before .before .before .before .before .args .blinds .now) (c .before .before .before .before .before .before .before .before .before .before .before .before .before .before .before .before .before .args .x) (c .before .before .before .before .before .before .before .before .before .before .before .before .before .before .before .before .before .args .start) (c .before .before .before .before .before .before .before .before .before .before .before .before .before .before .before .before .before .args .end) (c .before .before .before .before .before .before .before .before .before .before .before .before .before .before .before .before .before .args .floor) (c .before .before .before .before .before .before .before .before .before .before .before .before .before .before .before .before .before .args .s0) (c .before .before .before .before .before .before .before .before .before .before .before .before .before .before .before .before .before .args .b0) (c .before .before .before .before .before .before .before .before .before .before .before .before .before .loop .heights) (c .before .before .before .before .before .before .before .before .before .before .before .before .before .loop .blinds) (c .before .before .before .before .before .before .before .before .before .before .before .before .before .loop .ip) (c .before .before .before .before .before .before .before .before .before .before .before .before .before .loop .s) (c .before .before .before .before .before .before .before .before .before .before .before .before .before .loop .b) (c .before .before .before .before .before .before .before .before .before .before .before .before .before .loop .inv) (c .before .before .before .before .before .before .before .before .before .before .before .before .loop-test .taken) (c .before .before .before .before .before .before .before .before .before .before .before .instr-at .result .code) (c .before .before .before .before .before .before .before .before .before .before .before .instr-at .result .a) (Codes.leads-here (c .before .before .before .before .before .before .before .before .before .before .before .before .before .before .before .before .before .args .t .now) (c .before .before .before .before .before .before .before .before .before .before .before .before .before .before .before .before .before .args .x .chunk) (c .before .before .before .before .before .before .before .before .before .before .before .before .before .before .before .before .before .args .x .first) (c .before .before .before .before .before .before .before .before .before .before .before .before .before .before .before .before .before .args .x .count) (c .before .before .before .before .before .before .before .before .before .before .before .before .before .loop .ip) (c .before .before .before .before .before .before .before .before .before .before .before .before .before .before .before .before .before .pre .1 .placed .of .first) (c .before .before .before .before .before .before .before .before .before .before .before .before .before .before .before .before .before .pre .1 .placed .of .count) (c .before .before .before .before .before .before .before .before .before .before .before .instr-at .result) (c .before .before .before .before .before .before .before .before .before .before .before .instr-at .ensures)) (sym (c .before .before .before .before .before .before .before .before .before .before .is-straight .ensures) ∙ c .before .before .before .before .before .before .before .before .before .if1 .taken) (c .before .before .before .before .before .before .examine-at .result) (c .before .before .before .before .before .before .examine-at .ensures .0) (sym (c .before .passed .ensures) ∙ c .if2 .left) _ _ refl, ((c .before .before .before .before .before .before .before .before .before .before .before .before .before .loop .inv) .ready .height-low, (c .before .before .before .before .before .before .before .before .before .before .before .before .before .loop .inv) .ready .breaks-low))
+interp-region-returns t c = (Stretches.walking-stopped (c .before .before .before .before .before .before .before .before .before .before .before .before .before .before .before .before .before .args .t .now) (c .before .before .before .before .before .before .before .before .before .before .before .before .before .before .before .before .before .args .heights .now) (c .before .before .before .before .before .before .before .before .before .before .before .before .before .before .before .before .before .args .blinds .now) (c .before .before .before .before .before .before .before .before .before .before .before .before .before .before .before .before .before .args .x) (c .before .before .before .before .before .before .before .before .before .before .before .before .before .before .before .before .before .args .start) (c .before .before .before .before .before .before .before .before .before .before .before .before .before .before .before .before .before .args .end) (c .before .before .before .before .before .before .before .before .before .before .before .before .before .before .before .before .before .args .floor) (c .before .before .before .before .before .before .before .before .before .before .before .before .before .before .before .before .before .args .s0) (c .before .before .before .before .before .before .before .before .before .before .before .before .before .before .before .before .before .args .b0) (c .before .before .before .before .before .before .before .before .before .before .before .before .before .loop .heights) (c .before .before .before .before .before .before .before .before .before .before .before .before .before .loop .blinds) (c .before .before .before .before .before .before .before .before .before .before .before .before .before .loop .ip) (c .before .before .before .before .before .before .before .before .before .before .before .before .before .loop .s) (c .before .before .before .before .before .before .before .before .before .before .before .before .before .loop .b) (c .before .before .before .before .before .before .before .before .before .before .before .before .before .loop .inv) (c .before .before .before .before .before .before .straight-at .result) (c .before .before .before .before .before .before .straight-at .ensures .0) (c .before .before .before .before .before .before .straight-at .ensures .1) (sym (c .before .passed .ensures) ∙ c .if2 .left) _ _ refl, (c .before .before .before .before .before .before .before .before .before .before .before .before .before .loop .inv .ready .height-low, c .before .before .before .before .before .before .before .before .before .before .before .before .before .loop .inv .ready .breaks-low))
 
--- src/lib.rt:543:13
-interp-region-add-ip : (t : ℕ) → interp-region-lts.Need-add-ip (
-  instr-at-reads.Asked,
-  instr-at-reads.Learnt,
-  is-straight-reads.Asked,
-  is-straight-reads.Learnt,
-  examine-at-reads.Asked,
-  examine-at-reads.Learnt,
-  passed-reads.Asked,
-  passed-reads.Learnt,
-  block-at-below t,
-  block-at.Post,
-) (interp-region-at t) interp-region.Post interp-region-Inv-loop interp-region-μ-loop
-interp-region-add-ip t c = omega (arith, (c .before .before .before .before .before .before .before .before .before .before .before .before .before .loop-test .taken), c .before .before .before .before .before .before .before .before .before .before .before .before .before .before .before .before .before .before .fits)
-
--- src/lib.rt:528:5
+-- src/lib.rt:559:5
 interp-region-loop-less : (t : ℕ) → interp-region-lts.Need-loop-less (
   instr-at-reads.Asked,
   instr-at-reads.Learnt,
   is-straight-reads.Asked,
   is-straight-reads.Learnt,
-  examine-at-reads.Asked,
-  examine-at-reads.Learnt,
+  straight-at-reads.Asked,
+  straight-at-reads.Learnt,
   passed-reads.Asked,
   passed-reads.Learnt,
   block-at-below t,
   block-at.Post,
 ) (interp-region-at t) interp-region.Post interp-region-Inv-loop interp-region-μ-loop
-interp-region-loop-less t c = omega (arith, (c .before .before .before .before .before .before .before .before .before .before .before .before .before .loop-test .taken))
+interp-region-loop-less t c = omega (arith, c .before .before .before .before .before .before .before .before .before .before .before .before .before .loop-test .taken, c .before .before .before .before .before .before .before .straight-at .ensures .0 .moved (sym (c .before .before .passed .ensures) ∙ c .before .if2 .taken) (c .before .before .before .before .before .before .before .before .before .before .before .before .before .loop-test .taken) (Stretches.straight-here (c .before .before .before .before .before .before .before .before .before .before .before .before .before .before .before .before .before .before .args .t .now) (c .before .before .before .before .before .before .before .before .before .before .before .before .before .before .before .before .before .before .args .x) (c .before .before .before .before .before .before .before .before .before .before .before .before .before .before .loop .ip) _ (c .before .before .before .before .before .before .before .before .before .before .before .before .instr-at .ensures) _ (c .before .before .before .before .before .before .before .before .before .before .before .is-straight .ensures) (c .before .before .before .before .before .before .before .before .before .before .if1 .taken)), c .before .before .before .before .before .before .before .straight-at .ensures .0 .to)
 
--- src/lib.rt:528:5
+-- src/lib.rt:559:5
 interp-region-loop-again : (t : ℕ) → interp-region-lts.Need-loop-again (
   instr-at-reads.Asked,
   instr-at-reads.Learnt,
   is-straight-reads.Asked,
   is-straight-reads.Learnt,
-  examine-at-reads.Asked,
-  examine-at-reads.Learnt,
+  straight-at-reads.Asked,
+  straight-at-reads.Learnt,
   passed-reads.Asked,
   passed-reads.Learnt,
   block-at-below t,
   block-at.Post,
 ) (interp-region-at t) interp-region.Post interp-region-Inv-loop interp-region-μ-loop
-interp-region-loop-again t c = Cycle.walking-on (c .before .before .before .before .before .before .before .before .before .before .before .before .before .before .before .before .before .before .args .t .now) (c .before .before .before .before .before .before .before .before .before .before .before .before .before .before .before .before .before .before .args .heights .now) (c .before .before .before .before .before .before .before .before .before .before .before .before .before .before .before .before .before .before .args .blinds .now) (c .before .before .before .before .before .before .before .before .before .before .before .before .before .before .before .before .before .before .args .x) (c .before .before .before .before .before .before .before .before .before .before .before .before .before .before .before .before .before .before .args .start) (c .before .before .before .before .before .before .before .before .before .before .before .before .before .before .before .before .before .before .args .end) (c .before .before .before .before .before .before .before .before .before .before .before .before .before .before .before .before .before .before .args .floor) (c .before .before .before .before .before .before .before .before .before .before .before .before .before .before .before .before .before .before .args .s0) (c .before .before .before .before .before .before .before .before .before .before .before .before .before .before .before .before .before .before .args .b0) (c .before .before .before .before .before .before .before .before .before .before .before .before .before .before .loop .heights) (c .before .before .before .before .before .before .before .before .before .before .before .before .before .before .loop .blinds) (c .before .before .before .before .before .before .before .before .before .before .before .before .before .before .loop .ip) (c .before .before .before .before .before .before .before .before .before .before .before .before .before .before .loop .s) (c .before .before .before .before .before .before .before .before .before .before .before .before .before .before .loop .b) (c .before .before .before .before .before .before .before .before .before .before .before .before .before .before .loop .inv) (c .before .before .before .before .before .before .before .before .before .before .before .before .before .loop-test .taken) (c .before .before .before .before .before .before .before .before .before .before .before .before .instr-at .result .code) (c .before .before .before .before .before .before .before .before .before .before .before .before .instr-at .result .a) (Codes.leads-here (c .before .before .before .before .before .before .before .before .before .before .before .before .before .before .before .before .before .before .args .t .now) (c .before .before .before .before .before .before .before .before .before .before .before .before .before .before .before .before .before .before .args .x .chunk) (c .before .before .before .before .before .before .before .before .before .before .before .before .before .before .before .before .before .before .args .x .first) (c .before .before .before .before .before .before .before .before .before .before .before .before .before .before .before .before .before .before .args .x .count) (c .before .before .before .before .before .before .before .before .before .before .before .before .before .before .loop .ip) (c .before .before .before .before .before .before .before .before .before .before .before .before .before .before .before .before .before .before .pre .1 .placed .of .first) (c .before .before .before .before .before .before .before .before .before .before .before .before .before .before .before .before .before .before .pre .1 .placed .of .count) (c .before .before .before .before .before .before .before .before .before .before .before .before .instr-at .result) (c .before .before .before .before .before .before .before .before .before .before .before .before .instr-at .ensures)) (sym (c .before .before .before .before .before .before .before .before .before .before .before .is-straight .ensures) ∙ c .before .before .before .before .before .before .before .before .before .before .if1 .taken) (c .before .before .before .before .before .before .before .examine-at .result) (c .before .before .before .before .before .before .before .examine-at .ensures .0) (sym (c .before .before .passed .ensures) ∙ c .before .if2 .taken) _ _ (c .before .before .before .before .before .before .before .examine-at .kept .1 .0) (c .before .before .before .before .before .before .before .examine-at .kept .1 .1 .0) (c .before .before .before .before .before .before .before .examine-at .ensures .1)
+interp-region-loop-again t c = Stretches.walking-ran (c .before .before .before .before .before .before .before .before .before .before .before .before .before .before .before .before .before .before .args .t .now) (c .before .before .before .before .before .before .before .before .before .before .before .before .before .before .before .before .before .before .args .heights .now) (c .before .before .before .before .before .before .before .before .before .before .before .before .before .before .before .before .before .before .args .blinds .now) (c .before .before .before .before .before .before .before .before .before .before .before .before .before .before .before .before .before .before .args .x) (c .before .before .before .before .before .before .before .before .before .before .before .before .before .before .before .before .before .before .args .start) (c .before .before .before .before .before .before .before .before .before .before .before .before .before .before .before .before .before .before .args .end) (c .before .before .before .before .before .before .before .before .before .before .before .before .before .before .before .before .before .before .args .floor) (c .before .before .before .before .before .before .before .before .before .before .before .before .before .before .before .before .before .before .args .s0) (c .before .before .before .before .before .before .before .before .before .before .before .before .before .before .before .before .before .before .args .b0) (c .before .before .before .before .before .before .before .before .before .before .before .before .before .before .loop .heights) (c .before .before .before .before .before .before .before .before .before .before .before .before .before .before .loop .blinds) (c .before .before .before .before .before .before .before .before .before .before .before .before .before .before .loop .ip) (c .before .before .before .before .before .before .before .before .before .before .before .before .before .before .loop .s) (c .before .before .before .before .before .before .before .before .before .before .before .before .before .before .loop .b) (c .before .before .before .before .before .before .before .before .before .before .before .before .before .before .loop .inv) (c .before .before .before .before .before .before .before .straight-at .result) (c .before .before .before .before .before .before .before .straight-at .ensures .0) (c .before .before .before .before .before .before .before .straight-at .ensures .1) _ _ (c .before .before .before .before .before .before .before .straight-at .kept .1 .0) (c .before .before .before .before .before .before .before .straight-at .kept .1 .1 .0) (c .before .before .before .before .before .before .before .straight-at .ensures .2)
 
--- src/lib.rt:551:17
+-- src/lib.rt:582:17
 interp-region-cast-block-at : (t : ℕ) → interp-region-lts.Need-cast-block-at (
   instr-at-reads.Asked,
   instr-at-reads.Learnt,
   is-straight-reads.Asked,
   is-straight-reads.Learnt,
-  examine-at-reads.Asked,
-  examine-at-reads.Learnt,
+  straight-at-reads.Asked,
+  straight-at-reads.Learnt,
   passed-reads.Asked,
   passed-reads.Learnt,
   block-at-below t,
@@ -753,14 +743,14 @@ interp-region-cast-block-at : (t : ℕ) → interp-region-lts.Need-cast-block-at
 ) (interp-region-at t) interp-region.Post interp-region-Inv-loop interp-region-μ-loop
 interp-region-cast-block-at t c = search needs
 
--- src/lib.rt:545:17
+-- src/lib.rt:576:17
 interp-region-block-at-requires : (t : ℕ) → interp-region-lts.Need-block-at-requires (
   instr-at-reads.Asked,
   instr-at-reads.Learnt,
   is-straight-reads.Asked,
   is-straight-reads.Learnt,
-  examine-at-reads.Asked,
-  examine-at-reads.Learnt,
+  straight-at-reads.Asked,
+  straight-at-reads.Learnt,
   passed-reads.Asked,
   passed-reads.Learnt,
   block-at-below t,
@@ -773,8 +763,8 @@ interp-region-enum-told : (t : ℕ) → interp-region-lts.Need-enum-told (
   instr-at-reads.Learnt,
   is-straight-reads.Asked,
   is-straight-reads.Learnt,
-  examine-at-reads.Asked,
-  examine-at-reads.Learnt,
+  straight-at-reads.Asked,
+  straight-at-reads.Learnt,
   passed-reads.Asked,
   passed-reads.Learnt,
   block-at-below t,
@@ -782,134 +772,14 @@ interp-region-enum-told : (t : ℕ) → interp-region-lts.Need-enum-told (
 ) (interp-region-at t) interp-region.Post interp-region-Inv-loop interp-region-μ-loop
 interp-region-enum-told t c = search needs
 
--- src/lib.rt:563:21
-interp-region-enum-told-2 : (t : ℕ) → interp-region-lts.Need-enum-told-2 (
-  instr-at-reads.Asked,
-  instr-at-reads.Learnt,
-  is-straight-reads.Asked,
-  is-straight-reads.Learnt,
-  examine-at-reads.Asked,
-  examine-at-reads.Learnt,
-  passed-reads.Asked,
-  passed-reads.Learnt,
-  block-at-below t,
-  block-at.Post,
-) (interp-region-at t) interp-region.Post interp-region-Inv-loop interp-region-μ-loop
-interp-region-enum-told-2 t c = search needs
-
--- src/lib.rt:563:21
-interp-region-same-length-3 : (t : ℕ) → interp-region-lts.Need-same-length-3 (
-  instr-at-reads.Asked,
-  instr-at-reads.Learnt,
-  is-straight-reads.Asked,
-  is-straight-reads.Learnt,
-  examine-at-reads.Asked,
-  examine-at-reads.Learnt,
-  passed-reads.Asked,
-  passed-reads.Learnt,
-  block-at-below t,
-  block-at.Post,
-) (interp-region-at t) interp-region.Post interp-region-Inv-loop interp-region-μ-loop
-interp-region-same-length-3 t c = search needs
-
--- src/lib.rt:563:21
-interp-region-same-length-4 : (t : ℕ) → interp-region-lts.Need-same-length-4 (
-  instr-at-reads.Asked,
-  instr-at-reads.Learnt,
-  is-straight-reads.Asked,
-  is-straight-reads.Learnt,
-  examine-at-reads.Asked,
-  examine-at-reads.Learnt,
-  passed-reads.Asked,
-  passed-reads.Learnt,
-  block-at-below t,
-  block-at.Post,
-) (interp-region-at t) interp-region.Post interp-region-Inv-loop interp-region-μ-loop
-interp-region-same-length-4 t c = search needs
-
--- src/lib.rt:563:21
-interp-region-returns-2 : (t : ℕ) → interp-region-lts.Need-returns-2 (
-  instr-at-reads.Asked,
-  instr-at-reads.Learnt,
-  is-straight-reads.Asked,
-  is-straight-reads.Learnt,
-  examine-at-reads.Asked,
-  examine-at-reads.Learnt,
-  passed-reads.Asked,
-  passed-reads.Learnt,
-  block-at-below t,
-  block-at.Post,
-) (interp-region-at t) interp-region.Post interp-region-Inv-loop interp-region-μ-loop
-interp-region-returns-2 t c = (Cycle.walking-ended (c .before .before .before .before .before .before .before .before .before .before .before .before .before .before .before .before .before .before .args .t .now) (c .before .before .before .before .before .before .before .before .before .before .before .before .before .before .before .before .before .before .args .heights .now) (c .before .before .before .before .before .before .before .before .before .before .before .before .before .before .before .before .before .before .args .blinds .now) (c .before .before .before .before .before .before .before .before .before .before .before .before .before .before .before .before .before .before .args .x) (c .before .before .before .before .before .before .before .before .before .before .before .before .before .before .before .before .before .before .args .start) (c .before .before .before .before .before .before .before .before .before .before .before .before .before .before .before .before .before .before .args .end) (c .before .before .before .before .before .before .before .before .before .before .before .before .before .before .before .before .before .before .args .floor) (c .before .before .before .before .before .before .before .before .before .before .before .before .before .before .before .before .before .before .args .s0) (c .before .before .before .before .before .before .before .before .before .before .before .before .before .before .before .before .before .before .args .b0) (c .before .before .before .before .before .before .before .before .before .before .before .before .before .before .loop .heights) (c .before .before .before .before .before .before .before .before .before .before .before .before .before .before .loop .blinds) (c .before .before .before .before .before .before .before .before .before .before .before .before .before .before .loop .ip) (c .before .before .before .before .before .before .before .before .before .before .before .before .before .before .loop .s) (c .before .before .before .before .before .before .before .before .before .before .before .before .before .before .loop .b) (c .before .before .before .before .before .before .before .before .before .before .before .before .before .before .loop .inv) (c .before .before .before .before .before .before .before .before .before .before .before .before .before .loop-test .taken) (c .before .before .before .before .before .before .before .before .before .before .before .before .instr-at .result .code) (c .before .before .before .before .before .before .before .before .before .before .before .before .instr-at .result .a) (Codes.leads-here (c .before .before .before .before .before .before .before .before .before .before .before .before .before .before .before .before .before .before .args .t .now) (c .before .before .before .before .before .before .before .before .before .before .before .before .before .before .before .before .before .before .args .x .chunk) (c .before .before .before .before .before .before .before .before .before .before .before .before .before .before .before .before .before .before .args .x .first) (c .before .before .before .before .before .before .before .before .before .before .before .before .before .before .before .before .before .before .args .x .count) (c .before .before .before .before .before .before .before .before .before .before .before .before .before .before .loop .ip) (c .before .before .before .before .before .before .before .before .before .before .before .before .before .before .before .before .before .before .pre .1 .placed .of .first) (c .before .before .before .before .before .before .before .before .before .before .before .before .before .before .before .before .before .before .pre .1 .placed .of .count) (c .before .before .before .before .before .before .before .before .before .before .before .before .instr-at .result) (c .before .before .before .before .before .before .before .before .before .before .before .before .instr-at .ensures)) (c .before .before .before .before .before .before .before .block-at .result) _ _ (c .before .before .before .before .before .before .before .block-at .ensures .0) (c .enum-told2 .given .1), c .before .before .before .before .before .before .before .block-at .ensures .1 .2)
-
--- src/lib.rt:566:21
-interp-region-enum-told-3 : (t : ℕ) → interp-region-lts.Need-enum-told-3 (
-  instr-at-reads.Asked,
-  instr-at-reads.Learnt,
-  is-straight-reads.Asked,
-  is-straight-reads.Learnt,
-  examine-at-reads.Asked,
-  examine-at-reads.Learnt,
-  passed-reads.Asked,
-  passed-reads.Learnt,
-  block-at-below t,
-  block-at.Post,
-) (interp-region-at t) interp-region.Post interp-region-Inv-loop interp-region-μ-loop
-interp-region-enum-told-3 t c = search needs
-
--- src/lib.rt:566:21
-interp-region-same-length-5 : (t : ℕ) → interp-region-lts.Need-same-length-5 (
-  instr-at-reads.Asked,
-  instr-at-reads.Learnt,
-  is-straight-reads.Asked,
-  is-straight-reads.Learnt,
-  examine-at-reads.Asked,
-  examine-at-reads.Learnt,
-  passed-reads.Asked,
-  passed-reads.Learnt,
-  block-at-below t,
-  block-at.Post,
-) (interp-region-at t) interp-region.Post interp-region-Inv-loop interp-region-μ-loop
-interp-region-same-length-5 t c = search needs
-
--- src/lib.rt:566:21
-interp-region-same-length-6 : (t : ℕ) → interp-region-lts.Need-same-length-6 (
-  instr-at-reads.Asked,
-  instr-at-reads.Learnt,
-  is-straight-reads.Asked,
-  is-straight-reads.Learnt,
-  examine-at-reads.Asked,
-  examine-at-reads.Learnt,
-  passed-reads.Asked,
-  passed-reads.Learnt,
-  block-at-below t,
-  block-at.Post,
-) (interp-region-at t) interp-region.Post interp-region-Inv-loop interp-region-μ-loop
-interp-region-same-length-6 t c = search needs
-
--- src/lib.rt:566:21
-interp-region-returns-3 : (t : ℕ) → interp-region-lts.Need-returns-3 (
-  instr-at-reads.Asked,
-  instr-at-reads.Learnt,
-  is-straight-reads.Asked,
-  is-straight-reads.Learnt,
-  examine-at-reads.Asked,
-  examine-at-reads.Learnt,
-  passed-reads.Asked,
-  passed-reads.Learnt,
-  block-at-below t,
-  block-at.Post,
-) (interp-region-at t) interp-region.Post interp-region-Inv-loop interp-region-μ-loop
-interp-region-returns-3 t c = (Cycle.walking-stopped (c .before .before .before .before .before .before .before .before .before .before .before .before .before .before .before .before .before .before .args .t .now) (c .before .before .before .before .before .before .before .before .before .before .before .before .before .before .before .before .before .before .args .heights .now) (c .before .before .before .before .before .before .before .before .before .before .before .before .before .before .before .before .before .before .args .blinds .now) (c .before .before .before .before .before .before .before .before .before .before .before .before .before .before .before .before .before .before .args .x) (c .before .before .before .before .before .before .before .before .before .before .before .before .before .before .before .before .before .before .args .start) (c .before .before .before .before .before .before .before .before .before .before .before .before .before .before .before .before .before .before .args .end) (c .before .before .before .before .before .before .before .before .before .before .before .before .before .before .before .before .before .before .args .floor) (c .before .before .before .before .before .before .before .before .before .before .before .before .before .before .before .before .before .before .args .s0) (c .before .before .before .before .before .before .before .before .before .before .before .before .before .before .before .before .before .before .args .b0) (c .before .before .before .before .before .before .before .before .before .before .before .before .before .before .loop .heights) (c .before .before .before .before .before .before .before .before .before .before .before .before .before .before .loop .blinds) (c .before .before .before .before .before .before .before .before .before .before .before .before .before .before .loop .ip) (c .before .before .before .before .before .before .before .before .before .before .before .before .before .before .loop .s) (c .before .before .before .before .before .before .before .before .before .before .before .before .before .before .loop .b) (c .before .before .before .before .before .before .before .before .before .before .before .before .before .before .loop .inv) (c .before .before .before .before .before .before .before .before .before .before .before .before .before .loop-test .taken) (c .before .before .before .before .before .before .before .before .before .before .before .before .instr-at .result .code) (c .before .before .before .before .before .before .before .before .before .before .before .before .instr-at .result .a) (Codes.leads-here (c .before .before .before .before .before .before .before .before .before .before .before .before .before .before .before .before .before .before .args .t .now) (c .before .before .before .before .before .before .before .before .before .before .before .before .before .before .before .before .before .before .args .x .chunk) (c .before .before .before .before .before .before .before .before .before .before .before .before .before .before .before .before .before .before .args .x .first) (c .before .before .before .before .before .before .before .before .before .before .before .before .before .before .before .before .before .before .args .x .count) (c .before .before .before .before .before .before .before .before .before .before .before .before .before .before .loop .ip) (c .before .before .before .before .before .before .before .before .before .before .before .before .before .before .before .before .before .before .pre .1 .placed .of .first) (c .before .before .before .before .before .before .before .before .before .before .before .before .before .before .before .before .before .before .pre .1 .placed .of .count) (c .before .before .before .before .before .before .before .before .before .before .before .before .instr-at .result) (c .before .before .before .before .before .before .before .before .before .before .before .before .instr-at .ensures)) (c .before .before .before .before .before .before .before .block-at .result) _ _ (c .before .before .before .before .before .before .before .block-at .ensures .0) (c .enum-told3 .given .1), c .before .before .before .before .before .before .before .block-at .ensures .1 .2)
-
--- src/lib.rt:528:5
+-- src/lib.rt:559:5
 interp-region-loop-less-2 : (t : ℕ) → interp-region-lts.Need-loop-less-2 (
   instr-at-reads.Asked,
   instr-at-reads.Learnt,
   is-straight-reads.Asked,
   is-straight-reads.Learnt,
-  examine-at-reads.Asked,
-  examine-at-reads.Learnt,
+  straight-at-reads.Asked,
+  straight-at-reads.Learnt,
   passed-reads.Asked,
   passed-reads.Learnt,
   block-at-below t,
@@ -917,29 +787,149 @@ interp-region-loop-less-2 : (t : ℕ) → interp-region-lts.Need-loop-less-2 (
 ) (interp-region-at t) interp-region.Post interp-region-Inv-loop interp-region-μ-loop
 interp-region-loop-less-2 t c = omega (arith, (c .before .before .before .before .before .before .before .before .before .before .before .before .before .before .before .loop-test .taken), c .before .before .before .before .before .before .before .before .before .block-at .ensures .1 .0)
 
--- src/lib.rt:528:5
+-- src/lib.rt:559:5
 interp-region-loop-again-2 : (t : ℕ) → interp-region-lts.Need-loop-again-2 (
   instr-at-reads.Asked,
   instr-at-reads.Learnt,
   is-straight-reads.Asked,
   is-straight-reads.Learnt,
-  examine-at-reads.Asked,
-  examine-at-reads.Learnt,
+  straight-at-reads.Asked,
+  straight-at-reads.Learnt,
   passed-reads.Asked,
   passed-reads.Learnt,
   block-at-below t,
   block-at.Post,
 ) (interp-region-at t) interp-region.Post interp-region-Inv-loop interp-region-μ-loop
-interp-region-loop-again-2 t c = Cycle.walking-past (c .before .before .before .before .before .before .before .before .before .before .before .before .before .before .before .before .before .before .before .before .args .t .now) (c .before .before .before .before .before .before .before .before .before .before .before .before .before .before .before .before .before .before .before .before .args .heights .now) (c .before .before .before .before .before .before .before .before .before .before .before .before .before .before .before .before .before .before .before .before .args .blinds .now) (c .before .before .before .before .before .before .before .before .before .before .before .before .before .before .before .before .before .before .before .before .args .x) (c .before .before .before .before .before .before .before .before .before .before .before .before .before .before .before .before .before .before .before .before .args .start) (c .before .before .before .before .before .before .before .before .before .before .before .before .before .before .before .before .before .before .before .before .args .end) (c .before .before .before .before .before .before .before .before .before .before .before .before .before .before .before .before .before .before .before .before .args .floor) (c .before .before .before .before .before .before .before .before .before .before .before .before .before .before .before .before .before .before .before .before .args .s0) (c .before .before .before .before .before .before .before .before .before .before .before .before .before .before .before .before .before .before .before .before .args .b0) (c .before .before .before .before .before .before .before .before .before .before .before .before .before .before .before .before .loop .heights) (c .before .before .before .before .before .before .before .before .before .before .before .before .before .before .before .before .loop .blinds) (c .before .before .before .before .before .before .before .before .before .before .before .before .before .before .before .before .loop .ip) (c .before .before .before .before .before .before .before .before .before .before .before .before .before .before .before .before .loop .s) (c .before .before .before .before .before .before .before .before .before .before .before .before .before .before .before .before .loop .b) (c .before .before .before .before .before .before .before .before .before .before .before .before .before .before .before .before .loop .inv) (c .before .before .before .before .before .before .before .before .before .before .before .before .before .before .before .loop-test .taken) (c .before .before .before .before .before .before .before .before .before .before .before .before .before .before .instr-at .result .code) (c .before .before .before .before .before .before .before .before .before .before .before .before .before .before .instr-at .result .a) (Codes.leads-here (c .before .before .before .before .before .before .before .before .before .before .before .before .before .before .before .before .before .before .before .before .args .t .now) (c .before .before .before .before .before .before .before .before .before .before .before .before .before .before .before .before .before .before .before .before .args .x .chunk) (c .before .before .before .before .before .before .before .before .before .before .before .before .before .before .before .before .before .before .before .before .args .x .first) (c .before .before .before .before .before .before .before .before .before .before .before .before .before .before .before .before .before .before .before .before .args .x .count) (c .before .before .before .before .before .before .before .before .before .before .before .before .before .before .before .before .loop .ip) (c .before .before .before .before .before .before .before .before .before .before .before .before .before .before .before .before .before .before .before .before .pre .1 .placed .of .first) (c .before .before .before .before .before .before .before .before .before .before .before .before .before .before .before .before .before .before .before .before .pre .1 .placed .of .count) (c .before .before .before .before .before .before .before .before .before .before .before .before .before .before .instr-at .result) (c .before .before .before .before .before .before .before .before .before .before .before .before .before .before .instr-at .ensures)) (c .before .before .before .before .before .before .before .before .before .block-at .result) _ _ (c .before .before .before .before .before .before .before .before .before .block-at .ensures .0) (c .before .before .enum-told .given .1) (c .before .before .before .before .before .before .before .before .before .block-at .kept .1 .0) (c .before .before .before .before .before .before .before .before .before .block-at .kept .1 .1 .0) (c .before .before .before .before .before .before .before .before .before .block-at .ensures .1 .0) (c .before .before .before .before .before .before .before .before .before .block-at .ensures .1 .1) (c .before .before .before .before .before .before .before .before .before .block-at .ensures .1 .2 .0) (c .before .before .before .before .before .before .before .before .before .block-at .ensures .1 .2 .1)
+interp-region-loop-again-2 t c = Cycle.walking-past (c .before .before .before .before .before .before .before .before .before .before .before .before .before .before .before .before .before .before .before .before .args .t .now) (c .before .before .before .before .before .before .before .before .before .before .before .before .before .before .before .before .before .before .before .before .args .heights .now) (c .before .before .before .before .before .before .before .before .before .before .before .before .before .before .before .before .before .before .before .before .args .blinds .now) (c .before .before .before .before .before .before .before .before .before .before .before .before .before .before .before .before .before .before .before .before .args .x) (c .before .before .before .before .before .before .before .before .before .before .before .before .before .before .before .before .before .before .before .before .args .start) (c .before .before .before .before .before .before .before .before .before .before .before .before .before .before .before .before .before .before .before .before .args .end) (c .before .before .before .before .before .before .before .before .before .before .before .before .before .before .before .before .before .before .before .before .args .floor) (c .before .before .before .before .before .before .before .before .before .before .before .before .before .before .before .before .before .before .before .before .args .s0) (c .before .before .before .before .before .before .before .before .before .before .before .before .before .before .before .before .before .before .before .before .args .b0) (c .before .before .before .before .before .before .before .before .before .before .before .before .before .before .before .before .loop .heights) (c .before .before .before .before .before .before .before .before .before .before .before .before .before .before .before .before .loop .blinds) (c .before .before .before .before .before .before .before .before .before .before .before .before .before .before .before .before .loop .ip) (c .before .before .before .before .before .before .before .before .before .before .before .before .before .before .before .before .loop .s) (c .before .before .before .before .before .before .before .before .before .before .before .before .before .before .before .before .loop .b) (c .before .before .before .before .before .before .before .before .before .before .before .before .before .before .before .before .loop .inv) (c .before .before .before .before .before .before .before .before .before .before .before .before .before .before .before .loop-test .taken) (c .before .before .before .before .before .before .before .before .before .before .before .before .before .before .instr-at .result .code) (c .before .before .before .before .before .before .before .before .before .before .before .before .before .before .instr-at .result .a) (Codes.leads-here (c .before .before .before .before .before .before .before .before .before .before .before .before .before .before .before .before .before .before .before .before .args .t .now) (c .before .before .before .before .before .before .before .before .before .before .before .before .before .before .before .before .before .before .before .before .args .x .chunk) (c .before .before .before .before .before .before .before .before .before .before .before .before .before .before .before .before .before .before .before .before .args .x .first) (c .before .before .before .before .before .before .before .before .before .before .before .before .before .before .before .before .before .before .before .before .args .x .count) (c .before .before .before .before .before .before .before .before .before .before .before .before .before .before .before .before .loop .ip) (c .before .before .before .before .before .before .before .before .before .before .before .before .before .before .before .before .before .before .before .before .pre .1 .placed .of .first) (c .before .before .before .before .before .before .before .before .before .before .before .before .before .before .before .before .before .before .before .before .pre .1 .placed .of .count) (c .before .before .before .before .before .before .before .before .before .before .before .before .before .before .instr-at .result) (c .before .before .before .before .before .before .before .before .before .before .before .before .before .before .instr-at .ensures)) (c .before .before .before .before .before .before .before .before .before .block-at .result) _ _ (c .before .before .before .before .before .before .before .before .before .block-at .ensures .0) (c .enum-told .given .1) (c .before .before .before .before .before .before .before .before .before .block-at .kept .1 .0) (c .before .before .before .before .before .before .before .before .before .block-at .kept .1 .1 .0) (c .before .before .before .before .before .before .before .before .before .block-at .ensures .1 .0) (c .before .before .before .before .before .before .before .before .before .block-at .ensures .1 .1) (c .before .before .before .before .before .before .before .before .before .block-at .ensures .1 .2 .0) (c .before .before .before .before .before .before .before .before .before .block-at .ensures .1 .2 .1)
 
--- src/lib.rt:510:1
+-- src/lib.rt:597:21
+interp-region-enum-told-2 : (t : ℕ) → interp-region-lts.Need-enum-told-2 (
+  instr-at-reads.Asked,
+  instr-at-reads.Learnt,
+  is-straight-reads.Asked,
+  is-straight-reads.Learnt,
+  straight-at-reads.Asked,
+  straight-at-reads.Learnt,
+  passed-reads.Asked,
+  passed-reads.Learnt,
+  block-at-below t,
+  block-at.Post,
+) (interp-region-at t) interp-region.Post interp-region-Inv-loop interp-region-μ-loop
+interp-region-enum-told-2 t c = search needs
+
+-- src/lib.rt:597:21
+interp-region-same-length-3 : (t : ℕ) → interp-region-lts.Need-same-length-3 (
+  instr-at-reads.Asked,
+  instr-at-reads.Learnt,
+  is-straight-reads.Asked,
+  is-straight-reads.Learnt,
+  straight-at-reads.Asked,
+  straight-at-reads.Learnt,
+  passed-reads.Asked,
+  passed-reads.Learnt,
+  block-at-below t,
+  block-at.Post,
+) (interp-region-at t) interp-region.Post interp-region-Inv-loop interp-region-μ-loop
+interp-region-same-length-3 t c = search needs
+
+-- src/lib.rt:597:21
+interp-region-same-length-4 : (t : ℕ) → interp-region-lts.Need-same-length-4 (
+  instr-at-reads.Asked,
+  instr-at-reads.Learnt,
+  is-straight-reads.Asked,
+  is-straight-reads.Learnt,
+  straight-at-reads.Asked,
+  straight-at-reads.Learnt,
+  passed-reads.Asked,
+  passed-reads.Learnt,
+  block-at-below t,
+  block-at.Post,
+) (interp-region-at t) interp-region.Post interp-region-Inv-loop interp-region-μ-loop
+interp-region-same-length-4 t c = search needs
+
+-- src/lib.rt:597:21
+interp-region-returns-2 : (t : ℕ) → interp-region-lts.Need-returns-2 (
+  instr-at-reads.Asked,
+  instr-at-reads.Learnt,
+  is-straight-reads.Asked,
+  is-straight-reads.Learnt,
+  straight-at-reads.Asked,
+  straight-at-reads.Learnt,
+  passed-reads.Asked,
+  passed-reads.Learnt,
+  block-at-below t,
+  block-at.Post,
+) (interp-region-at t) interp-region.Post interp-region-Inv-loop interp-region-μ-loop
+interp-region-returns-2 t c = (Cycle.walking-ended (c .before .before .before .before .before .before .before .before .before .before .before .before .before .before .before .before .before .before .before .before .args .t .now) (c .before .before .before .before .before .before .before .before .before .before .before .before .before .before .before .before .before .before .before .before .args .heights .now) (c .before .before .before .before .before .before .before .before .before .before .before .before .before .before .before .before .before .before .before .before .args .blinds .now) (c .before .before .before .before .before .before .before .before .before .before .before .before .before .before .before .before .before .before .before .before .args .x) (c .before .before .before .before .before .before .before .before .before .before .before .before .before .before .before .before .before .before .before .before .args .start) (c .before .before .before .before .before .before .before .before .before .before .before .before .before .before .before .before .before .before .before .before .args .end) (c .before .before .before .before .before .before .before .before .before .before .before .before .before .before .before .before .before .before .before .before .args .floor) (c .before .before .before .before .before .before .before .before .before .before .before .before .before .before .before .before .before .before .before .before .args .s0) (c .before .before .before .before .before .before .before .before .before .before .before .before .before .before .before .before .before .before .before .before .args .b0) (c .before .before .before .before .before .before .before .before .before .before .before .before .before .before .before .before .loop .heights) (c .before .before .before .before .before .before .before .before .before .before .before .before .before .before .before .before .loop .blinds) (c .before .before .before .before .before .before .before .before .before .before .before .before .before .before .before .before .loop .ip) (c .before .before .before .before .before .before .before .before .before .before .before .before .before .before .before .before .loop .s) (c .before .before .before .before .before .before .before .before .before .before .before .before .before .before .before .before .loop .b) (c .before .before .before .before .before .before .before .before .before .before .before .before .before .before .before .before .loop .inv) (c .before .before .before .before .before .before .before .before .before .before .before .before .before .before .before .loop-test .taken) (c .before .before .before .before .before .before .before .before .before .before .before .before .before .before .instr-at .result .code) (c .before .before .before .before .before .before .before .before .before .before .before .before .before .before .instr-at .result .a) (Codes.leads-here (c .before .before .before .before .before .before .before .before .before .before .before .before .before .before .before .before .before .before .before .before .args .t .now) (c .before .before .before .before .before .before .before .before .before .before .before .before .before .before .before .before .before .before .before .before .args .x .chunk) (c .before .before .before .before .before .before .before .before .before .before .before .before .before .before .before .before .before .before .before .before .args .x .first) (c .before .before .before .before .before .before .before .before .before .before .before .before .before .before .before .before .before .before .before .before .args .x .count) (c .before .before .before .before .before .before .before .before .before .before .before .before .before .before .before .before .loop .ip) (c .before .before .before .before .before .before .before .before .before .before .before .before .before .before .before .before .before .before .before .before .pre .1 .placed .of .first) (c .before .before .before .before .before .before .before .before .before .before .before .before .before .before .before .before .before .before .before .before .pre .1 .placed .of .count) (c .before .before .before .before .before .before .before .before .before .before .before .before .before .before .instr-at .result) (c .before .before .before .before .before .before .before .before .before .before .before .before .before .before .instr-at .ensures)) (c .before .before .before .before .before .before .before .before .before .block-at .result) _ _ (c .before .before .before .before .before .before .before .before .before .block-at .ensures .0) (c .enum-told2 .given .1), c .before .before .before .before .before .before .before .before .before .block-at .ensures .1 .2)
+
+-- src/lib.rt:604:21
+interp-region-enum-told-3 : (t : ℕ) → interp-region-lts.Need-enum-told-3 (
+  instr-at-reads.Asked,
+  instr-at-reads.Learnt,
+  is-straight-reads.Asked,
+  is-straight-reads.Learnt,
+  straight-at-reads.Asked,
+  straight-at-reads.Learnt,
+  passed-reads.Asked,
+  passed-reads.Learnt,
+  block-at-below t,
+  block-at.Post,
+) (interp-region-at t) interp-region.Post interp-region-Inv-loop interp-region-μ-loop
+interp-region-enum-told-3 t c = search needs
+
+-- src/lib.rt:604:21
+interp-region-same-length-5 : (t : ℕ) → interp-region-lts.Need-same-length-5 (
+  instr-at-reads.Asked,
+  instr-at-reads.Learnt,
+  is-straight-reads.Asked,
+  is-straight-reads.Learnt,
+  straight-at-reads.Asked,
+  straight-at-reads.Learnt,
+  passed-reads.Asked,
+  passed-reads.Learnt,
+  block-at-below t,
+  block-at.Post,
+) (interp-region-at t) interp-region.Post interp-region-Inv-loop interp-region-μ-loop
+interp-region-same-length-5 t c = search needs
+
+-- src/lib.rt:604:21
+interp-region-same-length-6 : (t : ℕ) → interp-region-lts.Need-same-length-6 (
+  instr-at-reads.Asked,
+  instr-at-reads.Learnt,
+  is-straight-reads.Asked,
+  is-straight-reads.Learnt,
+  straight-at-reads.Asked,
+  straight-at-reads.Learnt,
+  passed-reads.Asked,
+  passed-reads.Learnt,
+  block-at-below t,
+  block-at.Post,
+) (interp-region-at t) interp-region.Post interp-region-Inv-loop interp-region-μ-loop
+interp-region-same-length-6 t c = search needs
+
+-- src/lib.rt:604:21
+interp-region-returns-3 : (t : ℕ) → interp-region-lts.Need-returns-3 (
+  instr-at-reads.Asked,
+  instr-at-reads.Learnt,
+  is-straight-reads.Asked,
+  is-straight-reads.Learnt,
+  straight-at-reads.Asked,
+  straight-at-reads.Learnt,
+  passed-reads.Asked,
+  passed-reads.Learnt,
+  block-at-below t,
+  block-at.Post,
+) (interp-region-at t) interp-region.Post interp-region-Inv-loop interp-region-μ-loop
+interp-region-returns-3 t c = (Cycle.walking-stopped (c .before .before .before .before .before .before .before .before .before .before .before .before .before .before .before .before .before .before .before .before .args .t .now) (c .before .before .before .before .before .before .before .before .before .before .before .before .before .before .before .before .before .before .before .before .args .heights .now) (c .before .before .before .before .before .before .before .before .before .before .before .before .before .before .before .before .before .before .before .before .args .blinds .now) (c .before .before .before .before .before .before .before .before .before .before .before .before .before .before .before .before .before .before .before .before .args .x) (c .before .before .before .before .before .before .before .before .before .before .before .before .before .before .before .before .before .before .before .before .args .start) (c .before .before .before .before .before .before .before .before .before .before .before .before .before .before .before .before .before .before .before .before .args .end) (c .before .before .before .before .before .before .before .before .before .before .before .before .before .before .before .before .before .before .before .before .args .floor) (c .before .before .before .before .before .before .before .before .before .before .before .before .before .before .before .before .before .before .before .before .args .s0) (c .before .before .before .before .before .before .before .before .before .before .before .before .before .before .before .before .before .before .before .before .args .b0) (c .before .before .before .before .before .before .before .before .before .before .before .before .before .before .before .before .loop .heights) (c .before .before .before .before .before .before .before .before .before .before .before .before .before .before .before .before .loop .blinds) (c .before .before .before .before .before .before .before .before .before .before .before .before .before .before .before .before .loop .ip) (c .before .before .before .before .before .before .before .before .before .before .before .before .before .before .before .before .loop .s) (c .before .before .before .before .before .before .before .before .before .before .before .before .before .before .before .before .loop .b) (c .before .before .before .before .before .before .before .before .before .before .before .before .before .before .before .before .loop .inv) (c .before .before .before .before .before .before .before .before .before .before .before .before .before .before .before .loop-test .taken) (c .before .before .before .before .before .before .before .before .before .before .before .before .before .before .instr-at .result .code) (c .before .before .before .before .before .before .before .before .before .before .before .before .before .before .instr-at .result .a) (Codes.leads-here (c .before .before .before .before .before .before .before .before .before .before .before .before .before .before .before .before .before .before .before .before .args .t .now) (c .before .before .before .before .before .before .before .before .before .before .before .before .before .before .before .before .before .before .before .before .args .x .chunk) (c .before .before .before .before .before .before .before .before .before .before .before .before .before .before .before .before .before .before .before .before .args .x .first) (c .before .before .before .before .before .before .before .before .before .before .before .before .before .before .before .before .before .before .before .before .args .x .count) (c .before .before .before .before .before .before .before .before .before .before .before .before .before .before .before .before .loop .ip) (c .before .before .before .before .before .before .before .before .before .before .before .before .before .before .before .before .before .before .before .before .pre .1 .placed .of .first) (c .before .before .before .before .before .before .before .before .before .before .before .before .before .before .before .before .before .before .before .before .pre .1 .placed .of .count) (c .before .before .before .before .before .before .before .before .before .before .before .before .before .before .instr-at .result) (c .before .before .before .before .before .before .before .before .before .before .before .before .before .before .instr-at .ensures)) (c .before .before .before .before .before .before .before .before .before .block-at .result) _ _ (c .before .before .before .before .before .before .before .before .before .block-at .ensures .0) (c .enum-told3 .given .1), c .before .before .before .before .before .before .before .before .before .block-at .ensures .1 .2)
+
+-- src/lib.rt:541:1
 interp-region-same-length-7 : (t : ℕ) → interp-region-lts.Need-same-length-7 (
   instr-at-reads.Asked,
   instr-at-reads.Learnt,
   is-straight-reads.Asked,
   is-straight-reads.Learnt,
-  examine-at-reads.Asked,
-  examine-at-reads.Learnt,
+  straight-at-reads.Asked,
+  straight-at-reads.Learnt,
   passed-reads.Asked,
   passed-reads.Learnt,
   block-at-below t,
@@ -947,14 +937,14 @@ interp-region-same-length-7 : (t : ℕ) → interp-region-lts.Need-same-length-7
 ) (interp-region-at t) interp-region.Post interp-region-Inv-loop interp-region-μ-loop
 interp-region-same-length-7 t c = search needs
 
--- src/lib.rt:510:1
+-- src/lib.rt:541:1
 interp-region-same-length-8 : (t : ℕ) → interp-region-lts.Need-same-length-8 (
   instr-at-reads.Asked,
   instr-at-reads.Learnt,
   is-straight-reads.Asked,
   is-straight-reads.Learnt,
-  examine-at-reads.Asked,
-  examine-at-reads.Learnt,
+  straight-at-reads.Asked,
+  straight-at-reads.Learnt,
   passed-reads.Asked,
   passed-reads.Learnt,
   block-at-below t,
@@ -962,14 +952,14 @@ interp-region-same-length-8 : (t : ℕ) → interp-region-lts.Need-same-length-8
 ) (interp-region-at t) interp-region.Post interp-region-Inv-loop interp-region-μ-loop
 interp-region-same-length-8 t c = search needs
 
--- src/lib.rt:510:1
+-- src/lib.rt:541:1
 interp-region-returns-4 : (t : ℕ) → interp-region-lts.Need-returns-4 (
   instr-at-reads.Asked,
   instr-at-reads.Learnt,
   is-straight-reads.Asked,
   is-straight-reads.Learnt,
-  examine-at-reads.Asked,
-  examine-at-reads.Learnt,
+  straight-at-reads.Asked,
+  straight-at-reads.Learnt,
   passed-reads.Asked,
   passed-reads.Learnt,
   block-at-below t,
@@ -977,7 +967,7 @@ interp-region-returns-4 : (t : ℕ) → interp-region-lts.Need-returns-4 (
 ) (interp-region-at t) interp-region.Post interp-region-Inv-loop interp-region-μ-loop
 interp-region-returns-4 t c = (Cycle.walking-end (c .before .before .before .before .before .args .t .now) (c .before .before .before .before .before .args .heights .now) (c .before .before .before .before .before .args .blinds .now) (c .before .before .before .before .before .args .x) (c .before .before .before .before .before .args .start) (c .before .before .before .before .before .args .end) (c .before .before .before .before .before .args .floor) (c .before .before .before .before .before .args .s0) (c .before .before .before .before .before .args .b0) (c .before .loop .heights) (c .before .loop .blinds) (c .before .loop .ip) (c .before .loop .s) (c .before .loop .b) (c .before .loop .inv) (omega (arith, c .loop-test .left)), ((c .before .loop .inv) .ready .height-low, (c .before .loop .inv) .ready .breaks-low))
 
--- src/lib.rt:836:16
+-- src/lib.rt:876:16
 last-pass-add-body : (t : ℕ) → last-pass-lts.Need-add-body (
   invalidate-written-locals-reads.Asked,
   invalidate-written-locals-reads.Learnt,
@@ -988,7 +978,7 @@ last-pass-add-body : (t : ℕ) → last-pass-lts.Need-add-body (
 ) (last-pass-at t) last-pass.Post
 last-pass-add-body t c = omega (arith, c .before .before .before .pre .1 .1 .0, c .before .before .before .pre .1 .1 .1, c .before .before .before .fits)
 
--- src/lib.rt:837:16
+-- src/lib.rt:877:16
 last-pass-sub-last : (t : ℕ) → last-pass-lts.Need-sub-last (
   invalidate-written-locals-reads.Asked,
   invalidate-written-locals-reads.Learnt,
@@ -999,7 +989,7 @@ last-pass-sub-last : (t : ℕ) → last-pass-lts.Need-sub-last (
 ) (last-pass-at t) last-pass.Post
 last-pass-sub-last t c = omega (arith, c .before .before .before .pre .1 .1 .0)
 
--- src/lib.rt:838:9
+-- src/lib.rt:878:9
 last-pass-invalidate-written-locals-requires :
     (t : ℕ) → last-pass-lts.Need-invalidate-written-locals-requires (
       invalidate-written-locals-reads.Asked,
@@ -1011,7 +1001,7 @@ last-pass-invalidate-written-locals-requires :
     ) (last-pass-at t) last-pass.Post
 last-pass-invalidate-written-locals-requires t c κs = (c .before .before .before .pre .1 .0 .of .first, c .before .before .before .pre .1 .0 .of .count, c .before .before .before .pre .1 .0 .of .within, omega (arith, c .before .before .before .pre .1 .1 .0, c .before .before .before .pre .1 .1 .1), omega (arith, c .before .before .before .pre .1 .0 .of .locals, locals-low (c .before .before .before .args .t .now) (c .before .before .before .args .x .chunk)), c .before .before .before .pre .1 .1 .3)
 
--- src/lib.rt:843:9
+-- src/lib.rt:883:9
 last-pass-interp-region-requires : (t : ℕ) → last-pass-lts.Need-interp-region-requires (
   invalidate-written-locals-reads.Asked,
   invalidate-written-locals-reads.Learnt,
@@ -1022,7 +1012,7 @@ last-pass-interp-region-requires : (t : ℕ) → last-pass-lts.Need-interp-regio
 ) (last-pass-at t) last-pass.Post
 last-pass-interp-region-requires t c κs = (omega (arith, c .before .before .before .before .before .before .pre .0, c .before .before .before .before .before .before .pre .1 .1 .0), record { placed = c .before .before .before .before .before .before .pre .1 .0; from = c .before .before .before .before .before .before .args .ip + 1; arm = Cycle.loop-arm-in (c .before .before .before .before .before .before .args .t .now) (c .before .before .before .before .before .before .args .x) (c .before .before .before .before .before .before .args .ip) (c .before .before .before .before .before .before .args .exit) (c .before .before .before .before .before .before .pre .1 .0 .of .first) (c .before .before .before .before .before .before .pre .1 .0 .of .count) (omega (arith, c .before .before .before .before .before .before .pre .1 .1 .0, c .before .before .before .before .before .before .pre .1 .1 .1)) (c .before .before .before .before .before .before .pre .1 .1 .4); after = omega arith; before = omega (arith, c .before .before .before .before .before .before .pre .1 .1 .0); floor-low = c .before .before .before .before .before .before .pre .1 .1 .2; height-low = omega (arith, c .before .before .invalidate-written-locals .ensures .0, c .before .before .before .before .before .before .pre .1 .1 .3); breaks-low = omega (arith, c .before .before .invalidate-written-locals .ensures .0, c .before .before .before .before .before .before .pre .1 .1 .3) })
 
--- src/lib.rt:844:5
+-- src/lib.rt:884:5
 last-pass-last-end-requires : (t : ℕ) → last-pass-lts.Need-last-end-requires (
   invalidate-written-locals-reads.Asked,
   invalidate-written-locals-reads.Learnt,
@@ -1033,7 +1023,7 @@ last-pass-last-end-requires : (t : ℕ) → last-pass-lts.Need-last-end-requires
 ) (last-pass-at t) last-pass.Post
 last-pass-last-end-requires t c κs = (c .before .before .before .before .interp-region .ensures .1, omega (arith, c .before .before .before .before .before .before .before .invalidate-written-locals .ensures .0, c .before .before .before .before .before .before .before .before .before .before .before .pre .1 .1 .3), omega (arith, c .before .before .before .before .before .before .before .before .before .before .before .pre .1 .0 .of .locals, locals-low (c .before .before .before .before .before .before .before .before .before .before .before .args .t .now) (c .before .before .before .before .before .before .before .before .before .before .before .args .x .chunk)))
 
--- src/lib.rt:821:1
+-- src/lib.rt:861:1
 last-pass-same-length : (t : ℕ) → last-pass-lts.Need-same-length (
   invalidate-written-locals-reads.Asked,
   invalidate-written-locals-reads.Learnt,
@@ -1044,7 +1034,7 @@ last-pass-same-length : (t : ℕ) → last-pass-lts.Need-same-length (
 ) (last-pass-at t) last-pass.Post
 last-pass-same-length t c = search needs
 
--- src/lib.rt:821:1
+-- src/lib.rt:861:1
 last-pass-same-length-2 : (t : ℕ) → last-pass-lts.Need-same-length-2 (
   invalidate-written-locals-reads.Asked,
   invalidate-written-locals-reads.Learnt,
@@ -1055,7 +1045,7 @@ last-pass-same-length-2 : (t : ℕ) → last-pass-lts.Need-same-length-2 (
 ) (last-pass-at t) last-pass.Post
 last-pass-same-length-2 t c = search needs
 
--- src/lib.rt:821:1
+-- src/lib.rt:861:1
 last-pass-returns : (t : ℕ) → last-pass-lts.Need-returns (
   invalidate-written-locals-reads.Asked,
   invalidate-written-locals-reads.Learnt,
@@ -1066,7 +1056,7 @@ last-pass-returns : (t : ℕ) → last-pass-lts.Need-returns (
 ) (last-pass-at t) last-pass.Post
 last-pass-returns t c = (Cycle.last-made (c .before .before .before .before .before .before .before .before .before .before .before .before .args .t .now) (c .before .before .before .before .before .before .before .before .before .before .before .before .args .x) (c .before .before .before .before .before .before .before .before .before .before .before .before .args .ip) (c .before .before .before .before .before .before .before .before .before .before .before .before .args .exit) (c .before .before .before .before .before .before .before .before .before .before .before .before .args .floor) (c .before .before .before .before .before .before .before .before .before .before .before .before .args .head) (c .before .before .before .before .before .before .before .before .invalidate-written-locals .result) (c .before .before .before .before .before .before .before .before .invalidate-written-locals .ensures .1) _ refl (c .before .before .before .before .before .interp-region .result) _ _ (c .before .before .before .before .before .interp-region .ensures .0) (c .last-end .result) (c .last-end .ensures .0 _), c .last-end .ensures .1)
 
--- src/lib.rt:759:26
+-- src/lib.rt:799:26
 loop-at-add-mark-height : (t : ℕ) → loop-at-lts.Need-add-mark-height (
   mark-height-reads.Asked,
   mark-height-reads.Learnt,
@@ -1077,7 +1067,7 @@ loop-at-add-mark-height : (t : ℕ) → loop-at-lts.Need-add-mark-height (
 ) (loop-at-at t) loop-at.Post
 loop-at-add-mark-height t c = omega (arith, Cycle.inside (c .before .before .before .before .args .t .now) (c .before .before .before .before .args .heights .now) (c .before .before .before .before .args .blinds .now) (c .before .before .before .before .args .x) (c .before .before .before .before .args .ip) (c .before .before .before .before .args .end) (c .before .before .before .before .args .floor) _ _ (c .before .before .before .before .pre .1 .0) (c .before .before .before .before .pre .1 .1 .0), c .before .before .before .before .pre .1 .0 .placed .of .within)
 
--- src/lib.rt:759:5
+-- src/lib.rt:799:5
 loop-at-mark-height-requires : (t : ℕ) → loop-at-lts.Need-mark-height-requires (
   mark-height-reads.Asked,
   mark-height-reads.Learnt,
@@ -1088,7 +1078,7 @@ loop-at-mark-height-requires : (t : ℕ) → loop-at-lts.Need-mark-height-requir
 ) (loop-at-at t) loop-at.Post
 loop-at-mark-height-requires t c κs = (omega (arith, Cycle.inside (c .before .before .before .before .args .t .now) (c .before .before .before .before .args .heights .now) (c .before .before .before .before .args .blinds .now) (c .before .before .before .before .args .x) (c .before .before .before .before .args .ip) (c .before .before .before .before .args .end) (c .before .before .before .before .args .floor) _ _ (c .before .before .before .before .pre .1 .0) (c .before .before .before .before .pre .1 .1 .0), c .before .before .before .before .pre .1 .0 .placed .heights-long), c .before .before .before .before .pre .1 .0 .height-low)
 
--- src/lib.rt:760:9
+-- src/lib.rt:800:9
 loop-at-passes-at-requires : (t : ℕ) → loop-at-lts.Need-passes-at-requires (
   mark-height-reads.Asked,
   mark-height-reads.Learnt,
@@ -1099,7 +1089,7 @@ loop-at-passes-at-requires : (t : ℕ) → loop-at-lts.Need-passes-at-requires (
 ) (loop-at-at t) loop-at.Post
 loop-at-passes-at-requires t c κs = let q = Cycle.loop-in (c .before .before .before .before .before .before .before .before .before .args .t .now) (c .before .before .before .before .before .before .before .before .before .args .heights .now) (c .before .before .before .before .before .before .before .before .before .args .blinds .now) (c .before .before .before .before .before .before .before .before .before .args .x) (c .before .before .before .before .before .before .before .before .before .args .target) (c .before .before .before .before .before .before .before .before .before .args .ip) (c .before .before .before .before .before .before .before .before .before .args .end) (c .before .before .before .before .before .before .before .before .before .args .floor) _ _ (c .before .before .before .before .before .before .before .before .before .pre .1 .0) (c .before .before .before .before .before .before .before .before .before .pre .1 .1 .0) (c .before .before .before .before .before .before .before .before .before .pre .1 .1 .1) in (omega (arith, c .before .before .before .before .before .before .before .before .before .pre .0, q .0, q .1), (Cycle.placed-by (c .before .before .before .before .before .before .before .before .before .args .t .now) (c .before .before .before .before .before .before .before .before .before .args .heights .now) (c .before .before .before .before .before .before .before .before .before .args .blinds .now) _ (c .before .before .before .before .before .before .before .before .before .args .blinds .now) (c .before .before .before .before .before .before .before .before .before .args .x) (c .before .before .before .before .mark-height .kept .0) refl (c .before .before .before .before .before .before .before .before .before .pre .1 .0 .placed), (q .0, omega (arith, q .1, Cycle.arm-in (c .before .before .before .before .before .before .before .before .before .args .t .now) (c .before .before .before .before .before .before .before .before .before .args .x) _ (c .before .before .before .before .before .before .before .before .before .args .end) (c .before .before .before .before .before .before .before .before .before .pre .1 .0 .placed .of .count) (c .before .before .before .before .before .before .before .before .before .pre .1 .0 .placed .of .first) (c .before .before .before .before .before .before .before .before .before .pre .1 .0 .placed .nested) ((c .before .before .before .before .before .before .before .before .before .pre .1 .0) .arm)), c .before .before .before .before .before .before .before .before .before .pre .1 .0 .height-low, (c .before .before .before .before .before .before .before .before .before .pre .1 .1 .1))))
 
--- src/lib.rt:761:5
+-- src/lib.rt:801:5
 loop-at-onward-after-requires : (t : ℕ) → loop-at-lts.Need-onward-after-requires (
   mark-height-reads.Asked,
   mark-height-reads.Learnt,
@@ -1110,7 +1100,7 @@ loop-at-onward-after-requires : (t : ℕ) → loop-at-lts.Need-onward-after-requ
 ) (loop-at-at t) loop-at.Post
 loop-at-onward-after-requires t c κs = search needs
 
--- src/lib.rt:741:1
+-- src/lib.rt:781:1
 loop-at-same-length : (t : ℕ) → loop-at-lts.Need-same-length (
   mark-height-reads.Asked,
   mark-height-reads.Learnt,
@@ -1121,7 +1111,7 @@ loop-at-same-length : (t : ℕ) → loop-at-lts.Need-same-length (
 ) (loop-at-at t) loop-at.Post
 loop-at-same-length t c = search needs
 
--- src/lib.rt:741:1
+-- src/lib.rt:781:1
 loop-at-same-length-2 : (t : ℕ) → loop-at-lts.Need-same-length-2 (
   mark-height-reads.Asked,
   mark-height-reads.Learnt,
@@ -1132,7 +1122,7 @@ loop-at-same-length-2 : (t : ℕ) → loop-at-lts.Need-same-length-2 (
 ) (loop-at-at t) loop-at.Post
 loop-at-same-length-2 t c = search needs
 
--- src/lib.rt:741:1
+-- src/lib.rt:781:1
 loop-at-returns : (t : ℕ) → loop-at-lts.Need-returns (
   mark-height-reads.Asked,
   mark-height-reads.Learnt,
@@ -1143,7 +1133,7 @@ loop-at-returns : (t : ℕ) → loop-at-lts.Need-returns (
 ) (loop-at-at t) loop-at.Post
 loop-at-returns t c = (c .onward-after .ensures .3 (Ready.chunkIn (c .before .before .before .before .before .before .before .before .before .before .before .before .before .before .before .args .t .now) (c .before .before .before .before .before .before .before .before .before .before .before .before .before .before .before .args .x)) (c .before .before .before .before .before .before .before .before .before .before .before .before .before .before .before .args .x .locals) (c .before .before .before .before .before .before .before .before .before .before .before .before .before .before .before .args .end) (c .before .before .before .before .before .before .before .before .before .before .before .before .before .before .before .args .floor) _ ∙ Cycle.loop-left (c .before .before .before .before .before .before .before .before .before .before .before .before .before .before .before .args .t .now) (c .before .before .before .before .before .before .before .before .before .before .before .before .before .before .before .args .x) (c .before .before .before .before .before .before .before .before .before .before .before .before .before .before .before .args .target) (c .before .before .before .before .before .before .before .before .before .before .before .before .before .before .before .args .ip) (c .before .before .before .before .before .before .before .before .before .before .before .before .before .before .before .args .end) (c .before .before .before .before .before .before .before .before .before .before .before .before .before .before .before .args .floor) (c .before .before .before .before .before .before .before .before .before .before .before .before .before .before .before .args .s) (c .before .before .before .before .before .before .before .before .before .before .before .before .before .before .before .args .b) (c .before .before .before .before .before .before .before .before .before .before .before .before .before .before .before .args .heights .now) (c .before .before .before .before .before .before .before .before .before .before .before .before .before .before .before .args .blinds .now) _ (c .before .before .before .before .before .before .before .before .before .before .before .before .before .before .before .pre .1 .0 .placed .of .first) (c .before .before .before .before .before .before .before .before .before .before .before .before .before .before .before .pre .1 .1 .1) (c .before .before .before .before .before .before .before .before .before .before .mark-height .ensures) (c .before .before .before .before .before .passes-at .result) _ (c .before .before .before .before .before .passes-at .ensures .0), (let q = Cycle.loop-in (c .before .before .before .before .before .before .before .before .before .before .before .before .before .before .before .args .t .now) (c .before .before .before .before .before .before .before .before .before .before .before .before .before .before .before .args .heights .now) (c .before .before .before .before .before .before .before .before .before .before .before .before .before .before .before .args .blinds .now) (c .before .before .before .before .before .before .before .before .before .before .before .before .before .before .before .args .x) (c .before .before .before .before .before .before .before .before .before .before .before .before .before .before .before .args .target) (c .before .before .before .before .before .before .before .before .before .before .before .before .before .before .before .args .ip) (c .before .before .before .before .before .before .before .before .before .before .before .before .before .before .before .args .end) (c .before .before .before .before .before .before .before .before .before .before .before .before .before .before .before .args .floor) _ _ (c .before .before .before .before .before .before .before .before .before .before .before .before .before .before .before .pre .1 .0) (c .before .before .before .before .before .before .before .before .before .before .before .before .before .before .before .pre .1 .1 .0) (c .before .before .before .before .before .before .before .before .before .before .before .before .before .before .before .pre .1 .1 .1) in (omega (arith, q .0, c .onward-after .ensures .0), omega (arith, q .1, c .onward-after .ensures .0), (omega (arith, c .onward-after .ensures .1, c .before .before .before .before .before .passes-at .ensures .1), omega (arith, c .onward-after .ensures .2, c .before .before .before .before .before .before .before .before .before .before .before .before .before .before .before .pre .1 .0 .breaks-low)))))
 
--- src/lib.rt:676:50
+-- src/lib.rt:716:50
 one-arm-add-interp-region : (t : ℕ) → one-arm-lts.Need-add-interp-region (
   interp-region-below t,
   interp-region.Post,
@@ -1152,7 +1142,7 @@ one-arm-add-interp-region : (t : ℕ) → one-arm-lts.Need-add-interp-region (
 ) (one-arm-at t) one-arm.Post
 one-arm-add-interp-region t c = search needs
 
--- src/lib.rt:676:9
+-- src/lib.rt:716:9
 one-arm-interp-region-requires : (t : ℕ) → one-arm-lts.Need-interp-region-requires (
   interp-region-below t,
   interp-region.Post,
@@ -1161,7 +1151,7 @@ one-arm-interp-region-requires : (t : ℕ) → one-arm-lts.Need-interp-region-re
 ) (one-arm-at t) one-arm.Post
 one-arm-interp-region-requires t c κs = let q = Cycle.one-arm-in (c .before .before .before .before .before .args .t .now) (c .before .before .before .before .before .args .heights .now) (c .before .before .before .before .before .args .blinds .now) (c .before .before .before .before .before .args .x) (c .before .before .before .before .before .args .target) (c .before .before .before .before .before .args .ip) (c .before .before .before .before .before .args .end) (c .before .before .before .before .before .args .floor) _ _ (c .before .before .before .before .before .pre .1 .0) (c .before .before .before .before .before .pre .1 .1 .0) (c .before .before .before .before .before .pre .1 .1 .1) (c .before .before .before .before .before .pre .1 .1 .2) in (omega (arith, q .0, q .1, c .before .before .before .before .before .pre .0), record { placed = c .before .before .before .before .before .pre .1 .0 .placed; from = c .before .before .before .before .before .args .ip + 1; arm = q .2; after = omega arith; before = omega (arith, q .0); floor-low = c .before .before .before .before .before .pre .1 .0 .floor-low; height-low = c .before .before .before .before .before .pre .1 .0 .height-low; breaks-low = c .before .before .before .before .before .pre .1 .0 .breaks-low })
 
--- src/lib.rt:680:19
+-- src/lib.rt:720:19
 one-arm-enum-told : (t : ℕ) → one-arm-lts.Need-enum-told (
   interp-region-below t,
   interp-region.Post,
@@ -1170,16 +1160,16 @@ one-arm-enum-told : (t : ℕ) → one-arm-lts.Need-enum-told (
 ) (one-arm-at t) one-arm.Post
 one-arm-enum-told t c = search needs
 
--- src/lib.rt:680:19
-one-arm-add-t22 : (t : ℕ) → one-arm-lts.Need-add-t22 (
+-- src/lib.rt:720:19
+one-arm-add-t23 : (t : ℕ) → one-arm-lts.Need-add-t23 (
   interp-region-below t,
   interp-region.Post,
   join-ends-reads.Asked,
   join-ends-reads.Learnt,
 ) (one-arm-at t) one-arm.Post
-one-arm-add-t22 t c = let q = Cycle.one-arm-in (c .before .before .before .before .before .before .before .before .before .before .before .before .args .t .now) (c .before .before .before .before .before .before .before .before .before .before .before .before .args .heights .now) (c .before .before .before .before .before .before .before .before .before .before .before .before .args .blinds .now) (c .before .before .before .before .before .before .before .before .before .before .before .before .args .x) (c .before .before .before .before .before .before .before .before .before .before .before .before .args .target) (c .before .before .before .before .before .before .before .before .before .before .before .before .args .ip) (c .before .before .before .before .before .before .before .before .before .before .before .before .args .end) (c .before .before .before .before .before .before .before .before .before .before .before .before .args .floor) _ _ (c .before .before .before .before .before .before .before .before .before .before .before .before .pre .1 .0) (c .before .before .before .before .before .before .before .before .before .before .before .before .pre .1 .1 .0) (c .before .before .before .before .before .before .before .before .before .before .before .before .pre .1 .1 .1) (c .before .before .before .before .before .before .before .before .before .before .before .before .pre .1 .1 .2) in omega (arith, q .1, c .before .before .before .before .before .before .before .before .before .before .before .before .fits)
+one-arm-add-t23 t c = let q = Cycle.one-arm-in (c .before .before .before .before .before .before .before .before .before .before .before .before .args .t .now) (c .before .before .before .before .before .before .before .before .before .before .before .before .args .heights .now) (c .before .before .before .before .before .before .before .before .before .before .before .before .args .blinds .now) (c .before .before .before .before .before .before .before .before .before .before .before .before .args .x) (c .before .before .before .before .before .before .before .before .before .before .before .before .args .target) (c .before .before .before .before .before .before .before .before .before .before .before .before .args .ip) (c .before .before .before .before .before .before .before .before .before .before .before .before .args .end) (c .before .before .before .before .before .before .before .before .before .before .before .before .args .floor) _ _ (c .before .before .before .before .before .before .before .before .before .before .before .before .pre .1 .0) (c .before .before .before .before .before .before .before .before .before .before .before .before .pre .1 .1 .0) (c .before .before .before .before .before .before .before .before .before .before .before .before .pre .1 .1 .1) (c .before .before .before .before .before .before .before .before .before .before .before .before .pre .1 .1 .2) in omega (arith, q .1, c .before .before .before .before .before .before .before .before .before .before .before .before .fits)
 
--- src/lib.rt:679:9
+-- src/lib.rt:719:9
 one-arm-same-length : (t : ℕ) → one-arm-lts.Need-same-length (
   interp-region-below t,
   interp-region.Post,
@@ -1188,7 +1178,7 @@ one-arm-same-length : (t : ℕ) → one-arm-lts.Need-same-length (
 ) (one-arm-at t) one-arm.Post
 one-arm-same-length t c = search needs
 
--- src/lib.rt:679:9
+-- src/lib.rt:719:9
 one-arm-same-length-2 : (t : ℕ) → one-arm-lts.Need-same-length-2 (
   interp-region-below t,
   interp-region.Post,
@@ -1197,7 +1187,7 @@ one-arm-same-length-2 : (t : ℕ) → one-arm-lts.Need-same-length-2 (
 ) (one-arm-at t) one-arm.Post
 one-arm-same-length-2 t c = search needs
 
--- src/lib.rt:679:9
+-- src/lib.rt:719:9
 one-arm-returns : (t : ℕ) → one-arm-lts.Need-returns (
   interp-region-below t,
   interp-region.Post,
@@ -1206,25 +1196,25 @@ one-arm-returns : (t : ℕ) → one-arm-lts.Need-returns (
 ) (one-arm-at t) one-arm.Post
 one-arm-returns t c = (Cycle.one-refused (c .before .before .before .before .before .before .before .before .before .before .before .before .args .t .now) (c .before .before .before .before .before .before .before .before .before .before .before .before .args .x) (c .before .before .before .before .before .before .before .before .before .before .before .before .args .target) (c .before .before .before .before .before .before .before .before .before .before .before .before .args .ip) (c .before .before .before .before .before .before .before .before .before .before .before .before .args .end) (c .before .before .before .before .before .before .before .before .before .before .before .before .args .floor) (c .before .before .before .before .before .before .before .before .before .before .before .before .args .s) (c .before .before .before .before .before .before .before .before .before .before .before .before .args .b) _ _ (c .before .before .before .before .before .before .interp-region .result) (c .before .before .before .before .before .before .before .before .before .before .before .before .pre .1 .1 .2) (c .before .before .before .before .before .before .interp-region .ensures .0) ((c .before .before .before .before .before .before .before .before .before .before .before .before .args .target) + 1) (c .enum-told .given .1), (let q = Cycle.one-arm-in (c .before .before .before .before .before .before .before .before .before .before .before .before .args .t .now) (c .before .before .before .before .before .before .before .before .before .before .before .before .args .heights .now) (c .before .before .before .before .before .before .before .before .before .before .before .before .args .blinds .now) (c .before .before .before .before .before .before .before .before .before .before .before .before .args .x) (c .before .before .before .before .before .before .before .before .before .before .before .before .args .target) (c .before .before .before .before .before .before .before .before .before .before .before .before .args .ip) (c .before .before .before .before .before .before .before .before .before .before .before .before .args .end) (c .before .before .before .before .before .before .before .before .before .before .before .before .args .floor) _ _ (c .before .before .before .before .before .before .before .before .before .before .before .before .pre .1 .0) (c .before .before .before .before .before .before .before .before .before .before .before .before .pre .1 .1 .0) (c .before .before .before .before .before .before .before .before .before .before .before .before .pre .1 .1 .1) (c .before .before .before .before .before .before .before .before .before .before .before .before .pre .1 .1 .2) in (omega (arith, q .0), omega (arith, q .1), c .before .before .before .before .before .before .interp-region .ensures .1)))
 
--- src/lib.rt:690:9
+-- src/lib.rt:727:9
 one-arm-join-ends-requires : (t : ℕ) → one-arm-lts.Need-join-ends-requires (
   interp-region-below t,
   interp-region.Post,
   join-ends-reads.Asked,
   join-ends-reads.Learnt,
 ) (one-arm-at t) one-arm.Post
-one-arm-join-ends-requires t c κs = (c .before .before .before .before .before .before .interp-region .ensures .1 .0, c .before .before .before .before .before .before .before .before .before .before .before .before .pre .1 .0 .height-low, c .before .before .before .before .before .before .interp-region .ensures .1 .1, omega (arith, c .before .before .before .before .before .before .before .before .before .before .before .before .pre .1 .0 .placed .of .locals, locals-low (c .before .before .before .before .before .before .before .before .before .before .before .before .args .t .now) (c .before .before .before .before .before .before .before .before .before .before .before .before .args .x .chunk)), (Laws.open-by (c .before .before .before .before .before .before .interp-region .result .flow) (c .before .match .keys2)), tt)
+one-arm-join-ends-requires t c κs = (c .before .before .before .before .before .before .before .interp-region .ensures .1 .0, c .before .before .before .before .before .before .before .before .before .before .before .before .before .pre .1 .0 .height-low, c .before .before .before .before .before .before .before .interp-region .ensures .1 .1, omega (arith, c .before .before .before .before .before .before .before .before .before .before .before .before .before .pre .1 .0 .placed .of .locals, locals-low (c .before .before .before .before .before .before .before .before .before .before .before .before .before .args .t .now) (c .before .before .before .before .before .before .before .before .before .before .before .before .before .args .x .chunk)), (Laws.open-by (c .before .before .before .before .before .before .before .interp-region .result .flow) (c .before .before .match .keys2)), tt)
 
--- src/lib.rt:692:15
-one-arm-add-t21 : (t : ℕ) → one-arm-lts.Need-add-t21 (
+-- src/lib.rt:729:15
+one-arm-add-t22 : (t : ℕ) → one-arm-lts.Need-add-t22 (
   interp-region-below t,
   interp-region.Post,
   join-ends-reads.Asked,
   join-ends-reads.Learnt,
 ) (one-arm-at t) one-arm.Post
-one-arm-add-t21 t c = let q = Cycle.one-arm-in (c .before .before .before .before .before .before .before .before .before .before .before .before .before .args .t .now) (c .before .before .before .before .before .before .before .before .before .before .before .before .before .args .heights .now) (c .before .before .before .before .before .before .before .before .before .before .before .before .before .args .blinds .now) (c .before .before .before .before .before .before .before .before .before .before .before .before .before .args .x) (c .before .before .before .before .before .before .before .before .before .before .before .before .before .args .target) (c .before .before .before .before .before .before .before .before .before .before .before .before .before .args .ip) (c .before .before .before .before .before .before .before .before .before .before .before .before .before .args .end) (c .before .before .before .before .before .before .before .before .before .before .before .before .before .args .floor) _ _ (c .before .before .before .before .before .before .before .before .before .before .before .before .before .pre .1 .0) (c .before .before .before .before .before .before .before .before .before .before .before .before .before .pre .1 .1 .0) (c .before .before .before .before .before .before .before .before .before .before .before .before .before .pre .1 .1 .1) (c .before .before .before .before .before .before .before .before .before .before .before .before .before .pre .1 .1 .2) in omega (arith, q .1, c .before .before .before .before .before .before .before .before .before .before .before .before .before .fits)
+one-arm-add-t22 t c = let q = Cycle.one-arm-in (c .before .before .before .before .before .before .before .before .before .before .before .before .before .before .args .t .now) (c .before .before .before .before .before .before .before .before .before .before .before .before .before .before .args .heights .now) (c .before .before .before .before .before .before .before .before .before .before .before .before .before .before .args .blinds .now) (c .before .before .before .before .before .before .before .before .before .before .before .before .before .before .args .x) (c .before .before .before .before .before .before .before .before .before .before .before .before .before .before .args .target) (c .before .before .before .before .before .before .before .before .before .before .before .before .before .before .args .ip) (c .before .before .before .before .before .before .before .before .before .before .before .before .before .before .args .end) (c .before .before .before .before .before .before .before .before .before .before .before .before .before .before .args .floor) _ _ (c .before .before .before .before .before .before .before .before .before .before .before .before .before .before .pre .1 .0) (c .before .before .before .before .before .before .before .before .before .before .before .before .before .before .pre .1 .1 .0) (c .before .before .before .before .before .before .before .before .before .before .before .before .before .before .pre .1 .1 .1) (c .before .before .before .before .before .before .before .before .before .before .before .before .before .before .pre .1 .1 .2) in omega (arith, q .1, c .before .before .before .before .before .before .before .before .before .before .before .before .before .before .fits)
 
--- src/lib.rt:659:1
+-- src/lib.rt:699:1
 one-arm-same-length-3 : (t : ℕ) → one-arm-lts.Need-same-length-3 (
   interp-region-below t,
   interp-region.Post,
@@ -1233,7 +1223,7 @@ one-arm-same-length-3 : (t : ℕ) → one-arm-lts.Need-same-length-3 (
 ) (one-arm-at t) one-arm.Post
 one-arm-same-length-3 t c = search needs
 
--- src/lib.rt:659:1
+-- src/lib.rt:699:1
 one-arm-same-length-4 : (t : ℕ) → one-arm-lts.Need-same-length-4 (
   interp-region-below t,
   interp-region.Post,
@@ -1242,7 +1232,7 @@ one-arm-same-length-4 : (t : ℕ) → one-arm-lts.Need-same-length-4 (
 ) (one-arm-at t) one-arm.Post
 one-arm-same-length-4 t c = search needs
 
--- src/lib.rt:659:1
+-- src/lib.rt:699:1
 one-arm-returns-2 : (t : ℕ) → one-arm-lts.Need-returns-2 (
   interp-region-below t,
   interp-region.Post,
@@ -1250,7 +1240,7 @@ one-arm-returns-2 : (t : ℕ) → one-arm-lts.Need-returns-2 (
   join-ends-reads.Learnt,
 ) (one-arm-at t) one-arm.Post
 unfolding Outcomes.fallOf
-one-arm-returns-2 t c = (Cycle.one-joined (c .before .before .before .before .before .before .before .before .before .before .before .before .before .args .t .now) (c .before .before .before .before .before .before .before .before .before .before .before .before .before .args .x) (c .before .before .before .before .before .before .before .before .before .before .before .before .before .args .target) (c .before .before .before .before .before .before .before .before .before .before .before .before .before .args .ip) (c .before .before .before .before .before .before .before .before .before .before .before .before .before .args .end) (c .before .before .before .before .before .before .before .before .before .before .before .before .before .args .floor) (c .before .before .before .before .before .before .before .before .before .before .before .before .before .args .s) (c .before .before .before .before .before .before .before .before .before .before .before .before .before .args .b) _ _ (c .before .before .before .before .before .before .before .interp-region .result) (c .before .before .before .before .before .before .before .before .before .before .before .before .before .pre .1 .1 .2) (c .before .before .before .before .before .before .before .interp-region .ensures .0) (Laws.open-by (c .before .before .before .before .before .before .before .interp-region .result .flow) (c .before .before .match .keys2)) (c .join-ends .result) (c .join-ends .ensures .0 _), (let q = Cycle.one-arm-in (c .before .before .before .before .before .before .before .before .before .before .before .before .before .args .t .now) (c .before .before .before .before .before .before .before .before .before .before .before .before .before .args .heights .now) (c .before .before .before .before .before .before .before .before .before .before .before .before .before .args .blinds .now) (c .before .before .before .before .before .before .before .before .before .before .before .before .before .args .x) (c .before .before .before .before .before .before .before .before .before .before .before .before .before .args .target) (c .before .before .before .before .before .before .before .before .before .before .before .before .before .args .ip) (c .before .before .before .before .before .before .before .before .before .before .before .before .before .args .end) (c .before .before .before .before .before .before .before .before .before .before .before .before .before .args .floor) _ _ (c .before .before .before .before .before .before .before .before .before .before .before .before .before .pre .1 .0) (c .before .before .before .before .before .before .before .before .before .before .before .before .before .pre .1 .1 .0) (c .before .before .before .before .before .before .before .before .before .before .before .before .before .pre .1 .1 .1) (c .before .before .before .before .before .before .before .before .before .before .before .before .before .pre .1 .1 .2) in (omega (arith, q .0), omega (arith, q .1), c .join-ends .ensures .1)))
+one-arm-returns-2 t c = (Cycle.one-joined (c .before .before .before .before .before .before .before .before .before .before .before .before .before .before .args .t .now) (c .before .before .before .before .before .before .before .before .before .before .before .before .before .before .args .x) (c .before .before .before .before .before .before .before .before .before .before .before .before .before .before .args .target) (c .before .before .before .before .before .before .before .before .before .before .before .before .before .before .args .ip) (c .before .before .before .before .before .before .before .before .before .before .before .before .before .before .args .end) (c .before .before .before .before .before .before .before .before .before .before .before .before .before .before .args .floor) (c .before .before .before .before .before .before .before .before .before .before .before .before .before .before .args .s) (c .before .before .before .before .before .before .before .before .before .before .before .before .before .before .args .b) _ _ (c .before .before .before .before .before .before .before .before .interp-region .result) (c .before .before .before .before .before .before .before .before .before .before .before .before .before .before .pre .1 .1 .2) (c .before .before .before .before .before .before .before .before .interp-region .ensures .0) (Laws.open-by (c .before .before .before .before .before .before .before .before .interp-region .result .flow) (c .before .before .before .match .keys2)) (c .join-ends .result) (c .join-ends .ensures .0 _), (let q = Cycle.one-arm-in (c .before .before .before .before .before .before .before .before .before .before .before .before .before .before .args .t .now) (c .before .before .before .before .before .before .before .before .before .before .before .before .before .before .args .heights .now) (c .before .before .before .before .before .before .before .before .before .before .before .before .before .before .args .blinds .now) (c .before .before .before .before .before .before .before .before .before .before .before .before .before .before .args .x) (c .before .before .before .before .before .before .before .before .before .before .before .before .before .before .args .target) (c .before .before .before .before .before .before .before .before .before .before .before .before .before .before .args .ip) (c .before .before .before .before .before .before .before .before .before .before .before .before .before .before .args .end) (c .before .before .before .before .before .before .before .before .before .before .before .before .before .before .args .floor) _ _ (c .before .before .before .before .before .before .before .before .before .before .before .before .before .before .pre .1 .0) (c .before .before .before .before .before .before .before .before .before .before .before .before .before .before .pre .1 .1 .0) (c .before .before .before .before .before .before .before .before .before .before .before .before .before .before .pre .1 .1 .1) (c .before .before .before .before .before .before .before .before .before .before .before .before .before .before .pre .1 .1 .2) in (omega (arith, q .0), omega (arith, q .1), c .join-ends .ensures .1)))
 
 abbrev passes-at-Inv-passes : passes-at-lts.InvT-passes
 passes-at-Inv-passes t heights₀ blinds₀ x ip exit locals floor no-breaks body last head₀ left₀ heights blinds head left = Cycle.Passing t x ip exit head₀ heights₀ blinds₀ heights blinds head left
@@ -1258,7 +1248,7 @@ passes-at-Inv-passes t heights₀ blinds₀ x ip exit locals floor no-breaks bod
 abbrev passes-at-μ-passes : passes-at-lts.MeasureT-passes
 passes-at-μ-passes t heights₀ blinds₀ x ip exit locals floor no-breaks body last head₀ left₀ heights blinds head left = left
 
--- src/lib.rt:784:16
+-- src/lib.rt:824:16
 passes-at-add-body : (t : ℕ) → passes-at-lts.Need-add-body (
   interp-region-below t,
   interp-region.Post,
@@ -1277,7 +1267,7 @@ passes-at-add-body : (t : ℕ) → passes-at-lts.Need-add-body (
 ) (passes-at-at t) passes-at.Post passes-at-Inv-passes passes-at-μ-passes
 passes-at-add-body t c = omega (arith, c .before .before .before .pre .1 .1 .0, c .before .before .before .pre .1 .1 .1, c .before .before .before .fits)
 
--- src/lib.rt:785:16
+-- src/lib.rt:825:16
 passes-at-sub-last : (t : ℕ) → passes-at-lts.Need-sub-last (
   interp-region-below t,
   interp-region.Post,
@@ -1296,7 +1286,7 @@ passes-at-sub-last : (t : ℕ) → passes-at-lts.Need-sub-last (
 ) (passes-at-at t) passes-at.Post passes-at-Inv-passes passes-at-μ-passes
 passes-at-sub-last t c = omega (arith, c .before .before .before .pre .1 .1 .0)
 
--- src/lib.rt:787:20
+-- src/lib.rt:827:20
 passes-at-add-left : (t : ℕ) → passes-at-lts.Need-add-left (
   interp-region-below t,
   interp-region.Post,
@@ -1315,7 +1305,7 @@ passes-at-add-left : (t : ℕ) → passes-at-lts.Need-add-left (
 ) (passes-at-at t) passes-at.Post passes-at-Inv-passes passes-at-μ-passes
 passes-at-add-left t c = omega (arith, c .before .before .before .pre .1 .0 .of .locals, locals-low (c .before .before .before .args .t .now) (c .before .before .before .args .x .chunk))
 
--- src/lib.rt:788:9
+-- src/lib.rt:828:9
 passes-at-passes-holds : (t : ℕ) → passes-at-lts.Need-passes-holds (
   interp-region-below t,
   interp-region.Post,
@@ -1334,7 +1324,7 @@ passes-at-passes-holds : (t : ℕ) → passes-at-lts.Need-passes-holds (
 ) (passes-at-at t) passes-at.Post passes-at-Inv-passes passes-at-μ-passes
 passes-at-passes-holds t c = Cycle.passing-start (c .before .before .before .args .t .now) (c .before .before .before .args .x) (c .before .before .before .args .ip) (c .before .before .before .args .exit) (c .before .before .before .args .s0) (c .before .before .before .args .heights .now) (c .before .before .before .args .blinds .now) (c .before .before .before .pre .1 .0 .of .locals) (omega (arith, c .before .before .before .pre .1 .0 .of .locals, locals-low (c .before .before .before .args .t .now) (c .before .before .before .args .x .chunk)))
 
--- src/lib.rt:789:13
+-- src/lib.rt:829:13
 passes-at-interp-region-requires : (t : ℕ) → passes-at-lts.Need-interp-region-requires (
   interp-region-below t,
   interp-region.Post,
@@ -1371,7 +1361,7 @@ passes-at-enum-told : (t : ℕ) → passes-at-lts.Need-enum-told (
 ) (passes-at-at t) passes-at.Post passes-at-Inv-passes passes-at-μ-passes
 passes-at-enum-told t c = search needs
 
--- src/lib.rt:795:31
+-- src/lib.rt:835:31
 passes-at-enum-told-2 : (t : ℕ) → passes-at-lts.Need-enum-told-2 (
   interp-region-below t,
   interp-region.Post,
@@ -1390,7 +1380,7 @@ passes-at-enum-told-2 : (t : ℕ) → passes-at-lts.Need-enum-told-2 (
 ) (passes-at-at t) passes-at.Post passes-at-Inv-passes passes-at-μ-passes
 passes-at-enum-told-2 t c = search needs
 
--- src/lib.rt:795:31
+-- src/lib.rt:835:31
 passes-at-leave-loop-requires : (t : ℕ) → passes-at-lts.Need-leave-loop-requires (
   interp-region-below t,
   interp-region.Post,
@@ -1409,7 +1399,7 @@ passes-at-leave-loop-requires : (t : ℕ) → passes-at-lts.Need-leave-loop-requ
 ) (passes-at-at t) passes-at.Post passes-at-Inv-passes passes-at-μ-passes
 passes-at-leave-loop-requires t c κs = (c .before .before .before .before .before .before .before .interp-region .ensures .1 .1, omega (arith, (c .before .before .before .before .before .before .before .before .before .before .passes .inv) .head-height, c .before .before .before .before .before .before .before .before .before .before .before .before .before .before .pre .1 .1 .2))
 
--- src/lib.rt:797:27
+-- src/lib.rt:837:27
 passes-at-enum-known-f : (t : ℕ) → passes-at-lts.Need-enum-known-f (
   interp-region-below t,
   interp-region.Post,
@@ -1428,7 +1418,7 @@ passes-at-enum-known-f : (t : ℕ) → passes-at-lts.Need-enum-known-f (
 ) (passes-at-at t) passes-at.Post passes-at-Inv-passes passes-at-μ-passes
 passes-at-enum-known-f t c = search needs
 
--- src/lib.rt:798:17
+-- src/lib.rt:838:17
 passes-at-same-length : (t : ℕ) → passes-at-lts.Need-same-length (
   interp-region-below t,
   interp-region.Post,
@@ -1447,7 +1437,7 @@ passes-at-same-length : (t : ℕ) → passes-at-lts.Need-same-length (
 ) (passes-at-at t) passes-at.Post passes-at-Inv-passes passes-at-μ-passes
 passes-at-same-length t c = search needs
 
--- src/lib.rt:798:17
+-- src/lib.rt:838:17
 passes-at-same-length-2 : (t : ℕ) → passes-at-lts.Need-same-length-2 (
   interp-region-below t,
   interp-region.Post,
@@ -1466,7 +1456,7 @@ passes-at-same-length-2 : (t : ℕ) → passes-at-lts.Need-same-length-2 (
 ) (passes-at-at t) passes-at.Post passes-at-Inv-passes passes-at-μ-passes
 passes-at-same-length-2 t c = search needs
 
--- src/lib.rt:798:17
+-- src/lib.rt:838:17
 passes-at-returns : (t : ℕ) → passes-at-lts.Need-returns (
   interp-region-below t,
   interp-region.Post,
@@ -1486,7 +1476,7 @@ passes-at-returns : (t : ℕ) → passes-at-lts.Need-returns (
 unfolding Outcomes.leavingOf
 passes-at-returns t c = (Cycle.pass-refused (c .before .before .before .before .before .before .before .before .before .before .before .before .before .before .before .args .t .now) (c .before .before .before .before .before .before .before .before .before .before .before .before .before .before .before .args .x) (c .before .before .before .before .before .before .before .before .before .before .before .before .before .before .before .args .ip) (c .before .before .before .before .before .before .before .before .before .before .before .before .before .before .before .args .exit) (c .before .before .before .before .before .before .before .before .before .before .before .before .before .before .before .args .s0) (c .before .before .before .before .before .before .before .before .before .before .before .before .before .before .before .args .heights .now) (c .before .before .before .before .before .before .before .before .before .before .before .before .before .before .before .args .blinds .now) (c .before .before .before .before .before .before .before .before .before .before .before .passes .heights) (c .before .before .before .before .before .before .before .before .before .before .before .passes .blinds) (c .before .before .before .before .before .before .before .before .before .before .before .passes .head) (c .before .before .before .before .before .before .before .before .before .before .before .passes .left) (c .before .before .before .before .before .before .before .before .before .before .before .passes .inv) (c .before .before .before .before .before .before .before .before .interp-region .result) _ _ _ refl (c .before .before .before .before .before .before .before .before .interp-region .ensures .0) (c .before .f .given .1), omega (arith, (c .before .before .before .before .before .before .before .before .before .before .before .passes .inv) .head-height, c .before .before .before .before .before .before .before .before .before .before .before .before .before .before .before .pre .1 .1 .2))
 
--- src/lib.rt:805:12
+-- src/lib.rt:845:12
 passes-at-same-stack-requires : (t : ℕ) → passes-at-lts.Need-same-stack-requires (
   interp-region-below t,
   interp-region.Post,
@@ -1505,7 +1495,7 @@ passes-at-same-stack-requires : (t : ℕ) → passes-at-lts.Need-same-stack-requ
 ) (passes-at-at t) passes-at.Post passes-at-Inv-passes passes-at-μ-passes
 passes-at-same-stack-requires t c κs = c .before .before .before .before .before .before .before .before .interp-region .ensures .1 .0
 
--- src/lib.rt:806:13
+-- src/lib.rt:846:13
 passes-at-not-neutral-requires : (t : ℕ) → passes-at-lts.Need-not-neutral-requires (
   interp-region-below t,
   interp-region.Post,
@@ -1524,7 +1514,7 @@ passes-at-not-neutral-requires : (t : ℕ) → passes-at-lts.Need-not-neutral-re
 ) (passes-at-at t) passes-at.Post passes-at-Inv-passes passes-at-μ-passes
 passes-at-not-neutral-requires t c κs = search needs
 
--- src/lib.rt:806:13
+-- src/lib.rt:846:13
 passes-at-same-length-3 : (t : ℕ) → passes-at-lts.Need-same-length-3 (
   interp-region-below t,
   interp-region.Post,
@@ -1543,7 +1533,7 @@ passes-at-same-length-3 : (t : ℕ) → passes-at-lts.Need-same-length-3 (
 ) (passes-at-at t) passes-at.Post passes-at-Inv-passes passes-at-μ-passes
 passes-at-same-length-3 t c = search needs
 
--- src/lib.rt:806:13
+-- src/lib.rt:846:13
 passes-at-same-length-4 : (t : ℕ) → passes-at-lts.Need-same-length-4 (
   interp-region-below t,
   interp-region.Post,
@@ -1562,7 +1552,7 @@ passes-at-same-length-4 : (t : ℕ) → passes-at-lts.Need-same-length-4 (
 ) (passes-at-at t) passes-at.Post passes-at-Inv-passes passes-at-μ-passes
 passes-at-same-length-4 t c = search needs
 
--- src/lib.rt:806:13
+-- src/lib.rt:846:13
 passes-at-returns-2 : (t : ℕ) → passes-at-lts.Need-returns-2 (
   interp-region-below t,
   interp-region.Post,
@@ -1581,7 +1571,7 @@ passes-at-returns-2 : (t : ℕ) → passes-at-lts.Need-returns-2 (
 ) (passes-at-at t) passes-at.Post passes-at-Inv-passes passes-at-μ-passes
 passes-at-returns-2 t c = (c .not-neutral .ensures .0 (c .before .before .before .before .before .before .before .before .before .before .before .before .before .before .before .before .before .before .args .x .locals) _ ∙ Cycle.pass-not-neutral (c .before .before .before .before .before .before .before .before .before .before .before .before .before .before .before .before .before .before .args .t .now) (c .before .before .before .before .before .before .before .before .before .before .before .before .before .before .before .before .before .before .args .x) (c .before .before .before .before .before .before .before .before .before .before .before .before .before .before .before .before .before .before .args .ip) (c .before .before .before .before .before .before .before .before .before .before .before .before .before .before .before .before .before .before .args .exit) (c .before .before .before .before .before .before .before .before .before .before .before .before .before .before .before .before .before .before .args .s0) (c .before .before .before .before .before .before .before .before .before .before .before .before .before .before .before .before .before .before .args .heights .now) (c .before .before .before .before .before .before .before .before .before .before .before .before .before .before .before .before .before .before .args .blinds .now) (c .before .before .before .before .before .before .before .before .before .before .before .before .before .before .passes .heights) (c .before .before .before .before .before .before .before .before .before .before .before .before .before .before .passes .blinds) (c .before .before .before .before .before .before .before .before .before .before .before .before .before .before .passes .head) (c .before .before .before .before .before .before .before .before .before .before .before .before .before .before .passes .left) (c .before .before .before .before .before .before .before .before .before .before .before .before .before .before .passes .inv) (c .before .before .before .before .before .before .before .before .before .before .before .interp-region .result) _ _ _ refl (c .before .before .before .before .before .before .before .before .before .before .before .interp-region .ensures .0) (c .before .before .before .before .enum-told .given .1) (sym (c .before .before .same-stack .ensures) ∙ c .before .if1 .left), subst (λ (z : State). z .height ≤ 64) (sym (c .not-neutral .ensures .1)) (omega (arith, (c .before .before .before .before .before .before .before .before .before .before .before .before .before .before .passes .inv) .head-height, c .before .before .before .before .before .before .before .before .before .before .before .before .before .before .before .before .before .before .pre .1 .1 .2)))
 
--- src/lib.rt:808:12
+-- src/lib.rt:848:12
 passes-at-covers-locals-requires : (t : ℕ) → passes-at-lts.Need-covers-locals-requires (
   interp-region-below t,
   interp-region.Post,
@@ -1600,7 +1590,7 @@ passes-at-covers-locals-requires : (t : ℕ) → passes-at-lts.Need-covers-local
 ) (passes-at-at t) passes-at.Post passes-at-Inv-passes passes-at-μ-passes
 passes-at-covers-locals-requires t c κs = omega (arith, c .before .before .before .before .before .before .before .before .before .before .before .before .before .before .before .before .before .pre .1 .0 .of .locals, locals-low (c .before .before .before .before .before .before .before .before .before .before .before .before .before .before .before .before .before .args .t .now) (c .before .before .before .before .before .before .before .before .before .before .before .before .before .before .before .before .before .args .x .chunk))
 
--- src/lib.rt:809:27
+-- src/lib.rt:849:27
 passes-at-leave-loop-requires-2 : (t : ℕ) → passes-at-lts.Need-leave-loop-requires-2 (
   interp-region-below t,
   interp-region.Post,
@@ -1619,7 +1609,7 @@ passes-at-leave-loop-requires-2 : (t : ℕ) → passes-at-lts.Need-leave-loop-re
 ) (passes-at-at t) passes-at.Post passes-at-Inv-passes passes-at-μ-passes
 passes-at-leave-loop-requires-2 t c κs = (c .before .before .before .before .before .before .before .before .before .before .before .before .interp-region .ensures .1 .1, c .before .before .before .before .before .before .before .before .before .before .before .before .interp-region .ensures .1 .0)
 
--- src/lib.rt:812:27
+-- src/lib.rt:852:27
 passes-at-last-pass-requires : (t : ℕ) → passes-at-lts.Need-last-pass-requires (
   interp-region-below t,
   interp-region.Post,
@@ -1638,7 +1628,7 @@ passes-at-last-pass-requires : (t : ℕ) → passes-at-lts.Need-last-pass-requir
 ) (passes-at-at t) passes-at.Post passes-at-Inv-passes passes-at-μ-passes
 passes-at-last-pass-requires t c κs = (omega (arith, c .before .before .before .before .before .before .before .before .before .before .before .before .before .before .before .before .before .before .before .before .before .before .pre .0, c .before .before .before .before .before .before .before .before .before .before .before .before .before .before .before .before .before .before .before .before .before .before .pre .1 .1 .0), (Cycle.placed-by (c .before .before .before .before .before .before .before .before .before .before .before .before .before .before .before .before .before .before .before .before .before .before .args .t .now) (c .before .before .before .before .before .before .before .before .before .before .before .before .before .before .before .before .before .before .before .before .before .before .args .heights .now) (c .before .before .before .before .before .before .before .before .before .before .before .before .before .before .before .before .before .before .before .before .before .before .args .blinds .now) _ _ (c .before .before .before .before .before .before .before .before .before .before .before .before .before .before .before .before .before .before .before .before .before .before .args .x) (c .before .before .before .before .before .before .before .before .before .before .before .before .before .before .before .interp-region .kept .1 .0 ∙ (c .before .before .before .before .before .before .before .before .before .before .before .before .before .before .before .before .before .before .passes .inv) .heights-same) (c .before .before .before .before .before .before .before .before .before .before .before .before .before .before .before .interp-region .kept .1 .1 .0 ∙ (c .before .before .before .before .before .before .before .before .before .before .before .before .before .before .before .before .before .before .passes .inv) .blinds-same) (c .before .before .before .before .before .before .before .before .before .before .before .before .before .before .before .before .before .before .before .before .before .before .pre .1 .0), (c .before .before .before .before .before .before .before .before .before .before .before .before .before .before .before .before .before .before .before .before .before .before .pre .1 .1 .0, c .before .before .before .before .before .before .before .before .before .before .before .before .before .before .before .before .before .before .before .before .before .before .pre .1 .1 .1, c .before .before .before .before .before .before .before .before .before .before .before .before .before .before .before .before .before .before .before .before .before .before .pre .1 .1 .2, omega (arith, (c .before .before .before .before .before .before .before .before .before .before .before .before .before .before .before .before .before .before .passes .inv) .head-height, c .before .before .before .before .before .before .before .before .before .before .before .before .before .before .before .before .before .before .before .before .before .before .pre .1 .1 .2), c .before .before .before .before .before .before .before .before .before .before .before .before .before .before .before .before .before .before .before .before .before .before .pre .1 .1 .3)))
 
--- src/lib.rt:814:9
+-- src/lib.rt:854:9
 passes-at-join-locals-requires : (t : ℕ) → passes-at-lts.Need-join-locals-requires (
   interp-region-below t,
   interp-region.Post,
@@ -1657,7 +1647,7 @@ passes-at-join-locals-requires : (t : ℕ) → passes-at-lts.Need-join-locals-re
 ) (passes-at-at t) passes-at.Post passes-at-Inv-passes passes-at-μ-passes
 passes-at-join-locals-requires t c κs = (omega (arith, (c .before .before .before .before .before .before .before .before .before .before .before .before .before .before .before .before .passes .inv) .head-height, c .before .before .before .before .before .before .before .before .before .before .before .before .before .before .before .before .before .before .before .before .pre .1 .1 .2), omega (arith, c .before .before .before .before .before .before .before .before .before .before .before .before .before .before .before .before .before .before .before .before .pre .1 .0 .of .locals, locals-low (c .before .before .before .before .before .before .before .before .before .before .before .before .before .before .before .before .before .before .before .before .args .t .now) (c .before .before .before .before .before .before .before .before .before .before .before .before .before .before .before .before .before .before .before .before .args .x .chunk)))
 
--- src/lib.rt:815:9
+-- src/lib.rt:855:9
 passes-at-sub-left : (t : ℕ) → passes-at-lts.Need-sub-left (
   interp-region-below t,
   interp-region.Post,
@@ -1676,7 +1666,7 @@ passes-at-sub-left : (t : ℕ) → passes-at-lts.Need-sub-left (
 ) (passes-at-at t) passes-at.Post passes-at-Inv-passes passes-at-μ-passes
 passes-at-sub-left t c = omega (arith, c .before .if3 .left)
 
--- src/lib.rt:788:9
+-- src/lib.rt:828:9
 passes-at-passes-less : (t : ℕ) → passes-at-lts.Need-passes-less (
   interp-region-below t,
   interp-region.Post,
@@ -1695,7 +1685,7 @@ passes-at-passes-less : (t : ℕ) → passes-at-lts.Need-passes-less (
 ) (passes-at-at t) passes-at.Post passes-at-Inv-passes passes-at-μ-passes
 passes-at-passes-less t c = omega (arith, c .before .if3 .left)
 
--- src/lib.rt:788:9
+-- src/lib.rt:828:9
 passes-at-passes-again : (t : ℕ) → passes-at-lts.Need-passes-again (
   interp-region-below t,
   interp-region.Post,
@@ -1715,7 +1705,7 @@ passes-at-passes-again : (t : ℕ) → passes-at-lts.Need-passes-again (
 unfolding covers-all
 passes-at-passes-again t c = Cycle.pass-again (c .before .before .before .before .before .before .before .before .before .before .before .before .before .before .before .before .before .before .before .before .before .args .t .now) (c .before .before .before .before .before .before .before .before .before .before .before .before .before .before .before .before .before .before .before .before .before .args .x) (c .before .before .before .before .before .before .before .before .before .before .before .before .before .before .before .before .before .before .before .before .before .args .ip) (c .before .before .before .before .before .before .before .before .before .before .before .before .before .before .before .before .before .before .before .before .before .args .exit) (c .before .before .before .before .before .before .before .before .before .before .before .before .before .before .before .before .before .before .before .before .before .args .s0) (c .before .before .before .before .before .before .before .before .before .before .before .before .before .before .before .before .before .before .before .before .before .args .heights .now) (c .before .before .before .before .before .before .before .before .before .before .before .before .before .before .before .before .before .before .before .before .before .args .blinds .now) (c .before .before .before .before .before .before .before .before .before .before .before .before .before .before .before .before .before .passes .heights) (c .before .before .before .before .before .before .before .before .before .before .before .before .before .before .before .before .before .passes .blinds) (c .before .before .before .before .before .before .before .before .before .before .before .before .before .before .before .before .before .passes .head) (c .before .before .before .before .before .before .before .before .before .before .before .before .before .before .before .before .before .passes .left) (c .before .before .before .before .before .before .before .before .before .before .before .before .before .before .before .before .before .passes .inv) (c .before .before .before .before .before .before .before .before .before .before .before .before .before .before .interp-region .result) _ _ _ refl (c .before .before .before .before .before .before .before .before .before .before .before .before .before .before .interp-region .ensures .0) (c .before .before .before .before .before .before .before .enum-told .given .1) (sym (c .before .before .before .before .before .same-stack .ensures) ∙ c .before .before .before .before .if1 .taken) (sym (c .before .before .before .covers-locals .ensures) ∙ c .before .before .if2 .left) (c .before .if3 .left) (c .join-locals .result) (c .join-locals .ensures .0) (c .join-locals .ensures .1) (c .before .before .before .before .before .before .before .before .before .before .before .before .before .before .interp-region .kept .1 .0) (c .before .before .before .before .before .before .before .before .before .before .before .before .before .before .interp-region .kept .1 .1 .0)
 
--- src/lib.rt:765:1
+-- src/lib.rt:805:1
 passes-at-same-length-5 : (t : ℕ) → passes-at-lts.Need-same-length-5 (
   interp-region-below t,
   interp-region.Post,
@@ -1734,7 +1724,7 @@ passes-at-same-length-5 : (t : ℕ) → passes-at-lts.Need-same-length-5 (
 ) (passes-at-at t) passes-at.Post passes-at-Inv-passes passes-at-μ-passes
 passes-at-same-length-5 t c = search needs
 
--- src/lib.rt:765:1
+-- src/lib.rt:805:1
 passes-at-same-length-6 : (t : ℕ) → passes-at-lts.Need-same-length-6 (
   interp-region-below t,
   interp-region.Post,
@@ -1753,7 +1743,7 @@ passes-at-same-length-6 : (t : ℕ) → passes-at-lts.Need-same-length-6 (
 ) (passes-at-at t) passes-at.Post passes-at-Inv-passes passes-at-μ-passes
 passes-at-same-length-6 t c = search needs
 
--- src/lib.rt:765:1
+-- src/lib.rt:805:1
 passes-at-returns-3 : (t : ℕ) → passes-at-lts.Need-returns-3 (
   interp-region-below t,
   interp-region.Post,
@@ -1772,7 +1762,7 @@ passes-at-returns-3 : (t : ℕ) → passes-at-lts.Need-returns-3 (
 ) (passes-at-at t) passes-at.Post passes-at-Inv-passes passes-at-μ-passes
 passes-at-returns-3 t c = (c .leave-loop .ensures .0 _ ∙ Cycle.pass-no-end (c .before .before .before .before .before .before .before .before .before .before .before .before .before .before .before .args .t .now) (c .before .before .before .before .before .before .before .before .before .before .before .before .before .before .before .args .x) (c .before .before .before .before .before .before .before .before .before .before .before .before .before .before .before .args .ip) (c .before .before .before .before .before .before .before .before .before .before .before .before .before .before .before .args .exit) (c .before .before .before .before .before .before .before .before .before .before .before .before .before .before .before .args .s0) (c .before .before .before .before .before .before .before .before .before .before .before .before .before .before .before .args .heights .now) (c .before .before .before .before .before .before .before .before .before .before .before .before .before .before .before .args .blinds .now) (c .before .before .before .before .before .before .before .before .before .before .before .passes .heights) (c .before .before .before .before .before .before .before .before .before .before .before .passes .blinds) (c .before .before .before .before .before .before .before .before .before .before .before .passes .head) (c .before .before .before .before .before .before .before .before .before .before .before .passes .left) (c .before .before .before .before .before .before .before .before .before .before .before .passes .inv) (c .before .before .before .before .before .before .before .before .interp-region .result) _ _ _ refl (c .before .before .before .before .before .before .before .before .interp-region .ensures .0) (c .before .enum-told2 .given .1), c .leave-loop .ensures .1)
 
--- src/lib.rt:765:1
+-- src/lib.rt:805:1
 passes-at-same-length-7 : (t : ℕ) → passes-at-lts.Need-same-length-7 (
   interp-region-below t,
   interp-region.Post,
@@ -1791,7 +1781,7 @@ passes-at-same-length-7 : (t : ℕ) → passes-at-lts.Need-same-length-7 (
 ) (passes-at-at t) passes-at.Post passes-at-Inv-passes passes-at-μ-passes
 passes-at-same-length-7 t c = search needs
 
--- src/lib.rt:765:1
+-- src/lib.rt:805:1
 passes-at-same-length-8 : (t : ℕ) → passes-at-lts.Need-same-length-8 (
   interp-region-below t,
   interp-region.Post,
@@ -1810,7 +1800,7 @@ passes-at-same-length-8 : (t : ℕ) → passes-at-lts.Need-same-length-8 (
 ) (passes-at-at t) passes-at.Post passes-at-Inv-passes passes-at-μ-passes
 passes-at-same-length-8 t c = search needs
 
--- src/lib.rt:765:1
+-- src/lib.rt:805:1
 passes-at-returns-4 : (t : ℕ) → passes-at-lts.Need-returns-4 (
   interp-region-below t,
   interp-region.Post,
@@ -1830,7 +1820,7 @@ passes-at-returns-4 : (t : ℕ) → passes-at-lts.Need-returns-4 (
 unfolding covers-all
 passes-at-returns-4 t c = (c .leave-loop2 .ensures .0 _ ∙ Cycle.pass-stable (c .before .before .before .before .before .before .before .before .before .before .before .before .before .before .before .before .before .before .before .before .args .t .now) (c .before .before .before .before .before .before .before .before .before .before .before .before .before .before .before .before .before .before .before .before .args .x) (c .before .before .before .before .before .before .before .before .before .before .before .before .before .before .before .before .before .before .before .before .args .ip) (c .before .before .before .before .before .before .before .before .before .before .before .before .before .before .before .before .before .before .before .before .args .exit) (c .before .before .before .before .before .before .before .before .before .before .before .before .before .before .before .before .before .before .before .before .args .s0) (c .before .before .before .before .before .before .before .before .before .before .before .before .before .before .before .before .before .before .before .before .args .heights .now) (c .before .before .before .before .before .before .before .before .before .before .before .before .before .before .before .before .before .before .before .before .args .blinds .now) (c .before .before .before .before .before .before .before .before .before .before .before .before .before .before .before .before .passes .heights) (c .before .before .before .before .before .before .before .before .before .before .before .before .before .before .before .before .passes .blinds) (c .before .before .before .before .before .before .before .before .before .before .before .before .before .before .before .before .passes .head) (c .before .before .before .before .before .before .before .before .before .before .before .before .before .before .before .before .passes .left) (c .before .before .before .before .before .before .before .before .before .before .before .before .before .before .before .before .passes .inv) (c .before .before .before .before .before .before .before .before .before .before .before .before .before .interp-region .result) _ _ _ refl (c .before .before .before .before .before .before .before .before .before .before .before .before .before .interp-region .ensures .0) (c .before .before .before .before .before .before .enum-told .given .1) (sym (c .before .before .before .before .same-stack .ensures) ∙ c .before .before .before .if1 .taken) (sym (c .before .before .covers-locals .ensures) ∙ c .before .if2 .taken), c .leave-loop2 .ensures .1)
 
--- src/lib.rt:765:1
+-- src/lib.rt:805:1
 passes-at-same-length-9 : (t : ℕ) → passes-at-lts.Need-same-length-9 (
   interp-region-below t,
   interp-region.Post,
@@ -1849,7 +1839,7 @@ passes-at-same-length-9 : (t : ℕ) → passes-at-lts.Need-same-length-9 (
 ) (passes-at-at t) passes-at.Post passes-at-Inv-passes passes-at-μ-passes
 passes-at-same-length-9 t c = c .before .before .before .before .last-pass .kept .1 .0 ∙ (c .before .before .before .before .before .before .before .before .before .before .before .before .before .before .before .before .before .before .before .before .interp-region .kept .1 .0 ∙ (c .before .before .before .before .before .before .before .before .before .before .before .before .before .before .before .before .before .before .before .before .before .before .before .passes .inv) .heights-same)
 
--- src/lib.rt:765:1
+-- src/lib.rt:805:1
 passes-at-same-length-10 : (t : ℕ) → passes-at-lts.Need-same-length-10 (
   interp-region-below t,
   interp-region.Post,
@@ -1868,7 +1858,7 @@ passes-at-same-length-10 : (t : ℕ) → passes-at-lts.Need-same-length-10 (
 ) (passes-at-at t) passes-at.Post passes-at-Inv-passes passes-at-μ-passes
 passes-at-same-length-10 t c = c .before .before .before .before .last-pass .kept .1 .1 .0 ∙ (c .before .before .before .before .before .before .before .before .before .before .before .before .before .before .before .before .before .before .before .before .interp-region .kept .1 .1 .0 ∙ (c .before .before .before .before .before .before .before .before .before .before .before .before .before .before .before .before .before .before .before .before .before .before .before .passes .inv) .blinds-same)
 
--- src/lib.rt:765:1
+-- src/lib.rt:805:1
 passes-at-returns-5 : (t : ℕ) → passes-at-lts.Need-returns-5 (
   interp-region-below t,
   interp-region.Post,
@@ -1888,7 +1878,7 @@ passes-at-returns-5 : (t : ℕ) → passes-at-lts.Need-returns-5 (
 unfolding covers-all
 passes-at-returns-5 t c = (c .before .before .before .before .last-pass .ensures .0 ∙ Cycle.pass-last (c .before .before .before .before .before .before .before .before .before .before .before .before .before .before .before .before .before .before .before .before .before .before .before .before .before .before .before .args .t .now) (c .before .before .before .before .before .before .before .before .before .before .before .before .before .before .before .before .before .before .before .before .before .before .before .before .before .before .before .args .x) (c .before .before .before .before .before .before .before .before .before .before .before .before .before .before .before .before .before .before .before .before .before .before .before .before .before .before .before .args .ip) (c .before .before .before .before .before .before .before .before .before .before .before .before .before .before .before .before .before .before .before .before .before .before .before .before .before .before .before .args .exit) (c .before .before .before .before .before .before .before .before .before .before .before .before .before .before .before .before .before .before .before .before .before .before .before .before .before .before .before .args .s0) (c .before .before .before .before .before .before .before .before .before .before .before .before .before .before .before .before .before .before .before .before .before .before .before .before .before .before .before .args .heights .now) (c .before .before .before .before .before .before .before .before .before .before .before .before .before .before .before .before .before .before .before .before .before .before .before .before .before .before .before .args .blinds .now) (c .before .before .before .before .before .before .before .before .before .before .before .before .before .before .before .before .before .before .before .before .before .before .before .passes .heights) (c .before .before .before .before .before .before .before .before .before .before .before .before .before .before .before .before .before .before .before .before .before .before .before .passes .blinds) (c .before .before .before .before .before .before .before .before .before .before .before .before .before .before .before .before .before .before .before .before .before .before .before .passes .head) (c .before .before .before .before .before .before .before .before .before .before .before .before .before .before .before .before .before .before .before .before .before .before .before .passes .left) (c .before .before .before .before .before .before .before .before .before .before .before .before .before .before .before .before .before .before .before .before .before .before .before .passes .inv) (c .before .before .before .before .before .before .before .before .before .before .before .before .before .before .before .before .before .before .before .before .interp-region .result) _ _ _ refl (c .before .before .before .before .before .before .before .before .before .before .before .before .before .before .before .before .before .before .before .before .interp-region .ensures .0) (c .before .before .before .before .before .before .before .before .before .before .before .before .before .enum-told .given .1) (sym (c .before .before .before .before .before .before .before .before .before .before .before .same-stack .ensures) ∙ c .before .before .before .before .before .before .before .before .before .before .if1 .taken) (sym (c .before .before .before .before .before .before .before .before .before .covers-locals .ensures) ∙ c .before .before .before .before .before .before .before .before .if2 .left) (c .before .before .before .before .before .before .before .if3 .taken), c .before .before .before .before .last-pass .ensures .1)
 
--- src/lib.rt:716:50
+-- src/lib.rt:753:50
 two-arms-add-interp-region : (t : ℕ) → two-arms-lts.Need-add-interp-region (
   interp-region-below t,
   interp-region.Post,
@@ -1897,7 +1887,7 @@ two-arms-add-interp-region : (t : ℕ) → two-arms-lts.Need-add-interp-region (
 ) (two-arms-at t) two-arms.Post
 two-arms-add-interp-region t c = search needs
 
--- src/lib.rt:716:58
+-- src/lib.rt:753:58
 two-arms-sub-interp-region : (t : ℕ) → two-arms-lts.Need-sub-interp-region (
   interp-region-below t,
   interp-region.Post,
@@ -1906,7 +1896,7 @@ two-arms-sub-interp-region : (t : ℕ) → two-arms-lts.Need-sub-interp-region (
 ) (two-arms-at t) two-arms.Post
 two-arms-sub-interp-region t c = let q = Cycle.two-arms-in (c .before .before .before .before .before .args .t .now) (c .before .before .before .before .before .args .heights .now) (c .before .before .before .before .before .args .blinds .now) (c .before .before .before .before .before .args .x) (c .before .before .before .before .before .args .target) (c .before .before .before .before .before .args .ip) (c .before .before .before .before .before .args .end) (c .before .before .before .before .before .args .floor) _ _ (c .before .before .before .before .before .pre .1 .0) (c .before .before .before .before .before .pre .1 .1 .0) (c .before .before .before .before .before .pre .1 .1 .1) (c .before .before .before .before .before .args .closer) (c .before .before .before .before .before .pre .1 .1 .2) in omega (arith, q .0)
 
--- src/lib.rt:716:9
+-- src/lib.rt:753:9
 two-arms-interp-region-requires : (t : ℕ) → two-arms-lts.Need-interp-region-requires (
   interp-region-below t,
   interp-region.Post,
@@ -1915,7 +1905,7 @@ two-arms-interp-region-requires : (t : ℕ) → two-arms-lts.Need-interp-region-
 ) (two-arms-at t) two-arms.Post
 two-arms-interp-region-requires t c κs = let q = Cycle.two-arms-in (c .before .before .before .before .before .args .t .now) (c .before .before .before .before .before .args .heights .now) (c .before .before .before .before .before .args .blinds .now) (c .before .before .before .before .before .args .x) (c .before .before .before .before .before .args .target) (c .before .before .before .before .before .args .ip) (c .before .before .before .before .before .args .end) (c .before .before .before .before .before .args .floor) _ _ (c .before .before .before .before .before .pre .1 .0) (c .before .before .before .before .before .pre .1 .1 .0) (c .before .before .before .before .before .pre .1 .1 .1) (c .before .before .before .before .before .args .closer) (c .before .before .before .before .before .pre .1 .1 .2) in (omega (arith, q .0, q .1, q .2, c .before .before .before .before .before .pre .0), record { placed = c .before .before .before .before .before .pre .1 .0 .placed; from = c .before .before .before .before .before .args .ip + 1; arm = q .3; after = omega arith; before = omega (arith, q .0); floor-low = c .before .before .before .before .before .pre .1 .0 .floor-low; height-low = c .before .before .before .before .before .pre .1 .0 .height-low; breaks-low = c .before .before .before .before .before .pre .1 .0 .breaks-low })
 
--- src/lib.rt:720:19
+-- src/lib.rt:757:19
 two-arms-enum-told : (t : ℕ) → two-arms-lts.Need-enum-told (
   interp-region-below t,
   interp-region.Post,
@@ -1924,16 +1914,16 @@ two-arms-enum-told : (t : ℕ) → two-arms-lts.Need-enum-told (
 ) (two-arms-at t) two-arms.Post
 two-arms-enum-told t c = search needs
 
--- src/lib.rt:720:19
-two-arms-add-t25 : (t : ℕ) → two-arms-lts.Need-add-t25 (
+-- src/lib.rt:757:19
+two-arms-add-t28 : (t : ℕ) → two-arms-lts.Need-add-t28 (
   interp-region-below t,
   interp-region.Post,
   join-ends-reads.Asked,
   join-ends-reads.Learnt,
 ) (two-arms-at t) two-arms.Post
-two-arms-add-t25 t c = let q = Cycle.two-arms-in (c .before .before .before .before .before .before .before .before .before .before .before .before .args .t .now) (c .before .before .before .before .before .before .before .before .before .before .before .before .args .heights .now) (c .before .before .before .before .before .before .before .before .before .before .before .before .args .blinds .now) (c .before .before .before .before .before .before .before .before .before .before .before .before .args .x) (c .before .before .before .before .before .before .before .before .before .before .before .before .args .target) (c .before .before .before .before .before .before .before .before .before .before .before .before .args .ip) (c .before .before .before .before .before .before .before .before .before .before .before .before .args .end) (c .before .before .before .before .before .before .before .before .before .before .before .before .args .floor) _ _ (c .before .before .before .before .before .before .before .before .before .before .before .before .pre .1 .0) (c .before .before .before .before .before .before .before .before .before .before .before .before .pre .1 .1 .0) (c .before .before .before .before .before .before .before .before .before .before .before .before .pre .1 .1 .1) (c .before .before .before .before .before .before .before .before .before .before .before .before .args .closer) (c .before .before .before .before .before .before .before .before .before .before .before .before .pre .1 .1 .2) in omega (arith, q .2, c .before .before .before .before .before .before .before .before .before .before .before .before .fits)
+two-arms-add-t28 t c = let q = Cycle.two-arms-in (c .before .before .before .before .before .before .before .before .before .before .before .before .args .t .now) (c .before .before .before .before .before .before .before .before .before .before .before .before .args .heights .now) (c .before .before .before .before .before .before .before .before .before .before .before .before .args .blinds .now) (c .before .before .before .before .before .before .before .before .before .before .before .before .args .x) (c .before .before .before .before .before .before .before .before .before .before .before .before .args .target) (c .before .before .before .before .before .before .before .before .before .before .before .before .args .ip) (c .before .before .before .before .before .before .before .before .before .before .before .before .args .end) (c .before .before .before .before .before .before .before .before .before .before .before .before .args .floor) _ _ (c .before .before .before .before .before .before .before .before .before .before .before .before .pre .1 .0) (c .before .before .before .before .before .before .before .before .before .before .before .before .pre .1 .1 .0) (c .before .before .before .before .before .before .before .before .before .before .before .before .pre .1 .1 .1) (c .before .before .before .before .before .before .before .before .before .before .before .before .args .closer) (c .before .before .before .before .before .before .before .before .before .before .before .before .pre .1 .1 .2) in omega (arith, q .2, c .before .before .before .before .before .before .before .before .before .before .before .before .fits)
 
--- src/lib.rt:719:9
+-- src/lib.rt:756:9
 two-arms-same-length : (t : ℕ) → two-arms-lts.Need-same-length (
   interp-region-below t,
   interp-region.Post,
@@ -1942,7 +1932,7 @@ two-arms-same-length : (t : ℕ) → two-arms-lts.Need-same-length (
 ) (two-arms-at t) two-arms.Post
 two-arms-same-length t c = search needs
 
--- src/lib.rt:719:9
+-- src/lib.rt:756:9
 two-arms-same-length-2 : (t : ℕ) → two-arms-lts.Need-same-length-2 (
   interp-region-below t,
   interp-region.Post,
@@ -1951,7 +1941,7 @@ two-arms-same-length-2 : (t : ℕ) → two-arms-lts.Need-same-length-2 (
 ) (two-arms-at t) two-arms.Post
 two-arms-same-length-2 t c = search needs
 
--- src/lib.rt:719:9
+-- src/lib.rt:756:9
 two-arms-returns : (t : ℕ) → two-arms-lts.Need-returns (
   interp-region-below t,
   interp-region.Post,
@@ -1960,7 +1950,7 @@ two-arms-returns : (t : ℕ) → two-arms-lts.Need-returns (
 ) (two-arms-at t) two-arms.Post
 two-arms-returns t c = (Cycle.then-refused (c .before .before .before .before .before .before .before .before .before .before .before .before .args .t .now) (c .before .before .before .before .before .before .before .before .before .before .before .before .args .x) (c .before .before .before .before .before .before .before .before .before .before .before .before .args .target) (c .before .before .before .before .before .before .before .before .before .before .before .before .args .ip) (c .before .before .before .before .before .before .before .before .before .before .before .before .args .end) (c .before .before .before .before .before .before .before .before .before .before .before .before .args .floor) (c .before .before .before .before .before .before .before .before .before .before .before .before .args .s) (c .before .before .before .before .before .before .before .before .before .before .before .before .args .b) _ _ (c .before .before .before .before .before .before .interp-region .result) (c .before .before .before .before .before .before .before .before .before .before .before .before .args .closer) (c .before .before .before .before .before .before .before .before .before .before .before .before .pre .1 .1 .2) (c .before .before .before .before .before .before .interp-region .ensures .0) ((c .before .before .before .before .before .before .before .before .before .before .before .before .args .closer) + 1) (c .enum-told .given .1), (let q = Cycle.two-arms-in (c .before .before .before .before .before .before .before .before .before .before .before .before .args .t .now) (c .before .before .before .before .before .before .before .before .before .before .before .before .args .heights .now) (c .before .before .before .before .before .before .before .before .before .before .before .before .args .blinds .now) (c .before .before .before .before .before .before .before .before .before .before .before .before .args .x) (c .before .before .before .before .before .before .before .before .before .before .before .before .args .target) (c .before .before .before .before .before .before .before .before .before .before .before .before .args .ip) (c .before .before .before .before .before .before .before .before .before .before .before .before .args .end) (c .before .before .before .before .before .before .before .before .before .before .before .before .args .floor) _ _ (c .before .before .before .before .before .before .before .before .before .before .before .before .pre .1 .0) (c .before .before .before .before .before .before .before .before .before .before .before .before .pre .1 .1 .0) (c .before .before .before .before .before .before .before .before .before .before .before .before .pre .1 .1 .1) (c .before .before .before .before .before .before .before .before .before .before .before .before .args .closer) (c .before .before .before .before .before .before .before .before .before .before .before .before .pre .1 .1 .2) in (omega (arith, q .0, q .1), omega (arith, q .2), c .before .before .before .before .before .before .interp-region .ensures .1)))
 
--- src/lib.rt:725:9
+-- src/lib.rt:762:9
 two-arms-interp-region-requires-2 : (t : ℕ) → two-arms-lts.Need-interp-region-requires-2 (
   interp-region-below t,
   interp-region.Post,
@@ -1969,7 +1959,7 @@ two-arms-interp-region-requires-2 : (t : ℕ) → two-arms-lts.Need-interp-regio
 ) (two-arms-at t) two-arms.Post
 two-arms-interp-region-requires-2 t c κs = let q = Cycle.two-arms-in (c .before .before .before .before .before .before .before .before .before .before .before .before .before .before .args .t .now) (c .before .before .before .before .before .before .before .before .before .before .before .before .before .before .args .heights .now) (c .before .before .before .before .before .before .before .before .before .before .before .before .before .before .args .blinds .now) (c .before .before .before .before .before .before .before .before .before .before .before .before .before .before .args .x) (c .before .before .before .before .before .before .before .before .before .before .before .before .before .before .args .target) (c .before .before .before .before .before .before .before .before .before .before .before .before .before .before .args .ip) (c .before .before .before .before .before .before .before .before .before .before .before .before .before .before .args .end) (c .before .before .before .before .before .before .before .before .before .before .before .before .before .before .args .floor) _ _ (c .before .before .before .before .before .before .before .before .before .before .before .before .before .before .pre .1 .0) (c .before .before .before .before .before .before .before .before .before .before .before .before .before .before .pre .1 .1 .0) (c .before .before .before .before .before .before .before .before .before .before .before .before .before .before .pre .1 .1 .1) (c .before .before .before .before .before .before .before .before .before .before .before .before .before .before .args .closer) (c .before .before .before .before .before .before .before .before .before .before .before .before .before .before .pre .1 .1 .2) in (omega (arith, q .0, q .1, q .2, c .before .before .before .before .before .before .before .before .before .before .before .before .before .before .pre .0), record { placed = Cycle.placed-by (c .before .before .before .before .before .before .before .before .before .before .before .before .before .before .args .t .now) (c .before .before .before .before .before .before .before .before .before .before .before .before .before .before .args .heights .now) (c .before .before .before .before .before .before .before .before .before .before .before .before .before .before .args .blinds .now) _ _ (c .before .before .before .before .before .before .before .before .before .before .before .before .before .before .args .x) (c .before .before .before .before .before .before .before .before .interp-region .kept .1 .0) (c .before .before .before .before .before .before .before .before .interp-region .kept .1 .1 .0) (c .before .before .before .before .before .before .before .before .before .before .before .before .before .before .pre .1 .0 .placed); from = c .before .before .before .before .before .before .before .before .before .before .before .before .before .before .args .target; arm = q .4; after = omega arith; before = q .1; floor-low = c .before .before .before .before .before .before .before .before .before .before .before .before .before .before .pre .1 .0 .floor-low; height-low = c .before .before .before .before .before .before .before .before .before .before .before .before .before .before .pre .1 .0 .height-low; breaks-low = c .before .before .before .before .before .before .before .before .interp-region .ensures .1 .1 })
 
--- src/lib.rt:729:19
+-- src/lib.rt:766:19
 two-arms-enum-told-2 : (t : ℕ) → two-arms-lts.Need-enum-told-2 (
   interp-region-below t,
   interp-region.Post,
@@ -1978,16 +1968,16 @@ two-arms-enum-told-2 : (t : ℕ) → two-arms-lts.Need-enum-told-2 (
 ) (two-arms-at t) two-arms.Post
 two-arms-enum-told-2 t c = search needs
 
--- src/lib.rt:729:19
-two-arms-add-t30 : (t : ℕ) → two-arms-lts.Need-add-t30 (
+-- src/lib.rt:766:19
+two-arms-add-t33 : (t : ℕ) → two-arms-lts.Need-add-t33 (
   interp-region-below t,
   interp-region.Post,
   join-ends-reads.Asked,
   join-ends-reads.Learnt,
 ) (two-arms-at t) two-arms.Post
-two-arms-add-t30 t c = let q = Cycle.two-arms-in (c .before .before .before .before .before .before .before .before .before .before .before .before .before .before .before .before .before .before .before .before .before .args .t .now) (c .before .before .before .before .before .before .before .before .before .before .before .before .before .before .before .before .before .before .before .before .before .args .heights .now) (c .before .before .before .before .before .before .before .before .before .before .before .before .before .before .before .before .before .before .before .before .before .args .blinds .now) (c .before .before .before .before .before .before .before .before .before .before .before .before .before .before .before .before .before .before .before .before .before .args .x) (c .before .before .before .before .before .before .before .before .before .before .before .before .before .before .before .before .before .before .before .before .before .args .target) (c .before .before .before .before .before .before .before .before .before .before .before .before .before .before .before .before .before .before .before .before .before .args .ip) (c .before .before .before .before .before .before .before .before .before .before .before .before .before .before .before .before .before .before .before .before .before .args .end) (c .before .before .before .before .before .before .before .before .before .before .before .before .before .before .before .before .before .before .before .before .before .args .floor) _ _ (c .before .before .before .before .before .before .before .before .before .before .before .before .before .before .before .before .before .before .before .before .before .pre .1 .0) (c .before .before .before .before .before .before .before .before .before .before .before .before .before .before .before .before .before .before .before .before .before .pre .1 .1 .0) (c .before .before .before .before .before .before .before .before .before .before .before .before .before .before .before .before .before .before .before .before .before .pre .1 .1 .1) (c .before .before .before .before .before .before .before .before .before .before .before .before .before .before .before .before .before .before .before .before .before .args .closer) (c .before .before .before .before .before .before .before .before .before .before .before .before .before .before .before .before .before .before .before .before .before .pre .1 .1 .2) in omega (arith, q .2, c .before .before .before .before .before .before .before .before .before .before .before .before .before .before .before .before .before .before .before .before .before .fits)
+two-arms-add-t33 t c = let q = Cycle.two-arms-in (c .before .before .before .before .before .before .before .before .before .before .before .before .before .before .before .before .before .before .before .before .before .args .t .now) (c .before .before .before .before .before .before .before .before .before .before .before .before .before .before .before .before .before .before .before .before .before .args .heights .now) (c .before .before .before .before .before .before .before .before .before .before .before .before .before .before .before .before .before .before .before .before .before .args .blinds .now) (c .before .before .before .before .before .before .before .before .before .before .before .before .before .before .before .before .before .before .before .before .before .args .x) (c .before .before .before .before .before .before .before .before .before .before .before .before .before .before .before .before .before .before .before .before .before .args .target) (c .before .before .before .before .before .before .before .before .before .before .before .before .before .before .before .before .before .before .before .before .before .args .ip) (c .before .before .before .before .before .before .before .before .before .before .before .before .before .before .before .before .before .before .before .before .before .args .end) (c .before .before .before .before .before .before .before .before .before .before .before .before .before .before .before .before .before .before .before .before .before .args .floor) _ _ (c .before .before .before .before .before .before .before .before .before .before .before .before .before .before .before .before .before .before .before .before .before .pre .1 .0) (c .before .before .before .before .before .before .before .before .before .before .before .before .before .before .before .before .before .before .before .before .before .pre .1 .1 .0) (c .before .before .before .before .before .before .before .before .before .before .before .before .before .before .before .before .before .before .before .before .before .pre .1 .1 .1) (c .before .before .before .before .before .before .before .before .before .before .before .before .before .before .before .before .before .before .before .before .before .args .closer) (c .before .before .before .before .before .before .before .before .before .before .before .before .before .before .before .before .before .before .before .before .before .pre .1 .1 .2) in omega (arith, q .2, c .before .before .before .before .before .before .before .before .before .before .before .before .before .before .before .before .before .before .before .before .before .fits)
 
--- src/lib.rt:728:9
+-- src/lib.rt:765:9
 two-arms-same-length-3 : (t : ℕ) → two-arms-lts.Need-same-length-3 (
   interp-region-below t,
   interp-region.Post,
@@ -1996,7 +1986,7 @@ two-arms-same-length-3 : (t : ℕ) → two-arms-lts.Need-same-length-3 (
 ) (two-arms-at t) two-arms.Post
 two-arms-same-length-3 t c = search needs
 
--- src/lib.rt:728:9
+-- src/lib.rt:765:9
 two-arms-same-length-4 : (t : ℕ) → two-arms-lts.Need-same-length-4 (
   interp-region-below t,
   interp-region.Post,
@@ -2005,7 +1995,7 @@ two-arms-same-length-4 : (t : ℕ) → two-arms-lts.Need-same-length-4 (
 ) (two-arms-at t) two-arms.Post
 two-arms-same-length-4 t c = search needs
 
--- src/lib.rt:728:9
+-- src/lib.rt:765:9
 two-arms-returns-2 : (t : ℕ) → two-arms-lts.Need-returns-2 (
   interp-region-below t,
   interp-region.Post,
@@ -2014,50 +2004,50 @@ two-arms-returns-2 : (t : ℕ) → two-arms-lts.Need-returns-2 (
 ) (two-arms-at t) two-arms.Post
 two-arms-returns-2 t c = (Cycle.else-refused (c .before .before .before .before .before .before .before .before .before .before .before .before .before .before .before .before .before .before .before .before .before .args .t .now) (c .before .before .before .before .before .before .before .before .before .before .before .before .before .before .before .before .before .before .before .before .before .args .x) (c .before .before .before .before .before .before .before .before .before .before .before .before .before .before .before .before .before .before .before .before .before .args .target) (c .before .before .before .before .before .before .before .before .before .before .before .before .before .before .before .before .before .before .before .before .before .args .ip) (c .before .before .before .before .before .before .before .before .before .before .before .before .before .before .before .before .before .before .before .before .before .args .end) (c .before .before .before .before .before .before .before .before .before .before .before .before .before .before .before .before .before .before .before .before .before .args .floor) (c .before .before .before .before .before .before .before .before .before .before .before .before .before .before .before .before .before .before .before .before .before .args .s) (c .before .before .before .before .before .before .before .before .before .before .before .before .before .before .before .before .before .before .before .before .before .args .b) _ _ (c .before .before .before .before .before .before .before .before .before .before .before .before .before .before .before .interp-region .result) (c .before .before .before .before .before .before .before .before .before .before .before .before .before .before .before .before .before .before .before .before .before .args .closer) (c .before .before .before .before .before .before .before .before .before .before .before .before .before .before .before .before .before .before .before .before .before .pre .1 .1 .2) (c .before .before .before .before .before .before .before .before .before .before .before .before .before .before .before .interp-region .ensures .0) (Laws.open-by (c .before .before .before .before .before .before .before .before .before .before .before .before .before .before .before .interp-region .result .flow) (c .before .before .before .before .before .before .before .before .before .before .match .keys2)) (c .before .before .before .before .before .before .interp-region2 .result) _ (c .before .before .before .before .before .before .interp-region2 .ensures .0) ((c .before .before .before .before .before .before .before .before .before .before .before .before .before .before .before .before .before .before .before .before .before .args .closer) + 1) (c .enum-told2 .given .1), (let q = Cycle.two-arms-in (c .before .before .before .before .before .before .before .before .before .before .before .before .before .before .before .before .before .before .before .before .before .args .t .now) (c .before .before .before .before .before .before .before .before .before .before .before .before .before .before .before .before .before .before .before .before .before .args .heights .now) (c .before .before .before .before .before .before .before .before .before .before .before .before .before .before .before .before .before .before .before .before .before .args .blinds .now) (c .before .before .before .before .before .before .before .before .before .before .before .before .before .before .before .before .before .before .before .before .before .args .x) (c .before .before .before .before .before .before .before .before .before .before .before .before .before .before .before .before .before .before .before .before .before .args .target) (c .before .before .before .before .before .before .before .before .before .before .before .before .before .before .before .before .before .before .before .before .before .args .ip) (c .before .before .before .before .before .before .before .before .before .before .before .before .before .before .before .before .before .before .before .before .before .args .end) (c .before .before .before .before .before .before .before .before .before .before .before .before .before .before .before .before .before .before .before .before .before .args .floor) _ _ (c .before .before .before .before .before .before .before .before .before .before .before .before .before .before .before .before .before .before .before .before .before .pre .1 .0) (c .before .before .before .before .before .before .before .before .before .before .before .before .before .before .before .before .before .before .before .before .before .pre .1 .1 .0) (c .before .before .before .before .before .before .before .before .before .before .before .before .before .before .before .before .before .before .before .before .before .pre .1 .1 .1) (c .before .before .before .before .before .before .before .before .before .before .before .before .before .before .before .before .before .before .before .before .before .args .closer) (c .before .before .before .before .before .before .before .before .before .before .before .before .before .before .before .before .before .before .before .before .before .pre .1 .1 .2) in (omega (arith, q .0, q .1), omega (arith, q .2), c .before .before .before .before .before .before .interp-region2 .ensures .1)))
 
--- src/lib.rt:733:9
+-- src/lib.rt:773:9
 two-arms-join-ends-requires : (t : ℕ) → two-arms-lts.Need-join-ends-requires (
   interp-region-below t,
   interp-region.Post,
   join-ends-reads.Asked,
   join-ends-reads.Learnt,
 ) (two-arms-at t) two-arms.Post
-two-arms-join-ends-requires t c κs = (c .before .before .before .before .before .before .before .before .before .before .before .before .before .before .interp-region .ensures .1 .0, c .before .before .before .before .before .interp-region2 .ensures .1 .0, c .before .before .before .before .before .interp-region2 .ensures .1 .1, omega (arith, c .before .before .before .before .before .before .before .before .before .before .before .before .before .before .before .before .before .before .before .before .pre .1 .0 .placed .of .locals, locals-low (c .before .before .before .before .before .before .before .before .before .before .before .before .before .before .before .before .before .before .before .before .args .t .now) (c .before .before .before .before .before .before .before .before .before .before .before .before .before .before .before .before .before .before .before .before .args .x .chunk)), (Laws.open-by (c .before .before .before .before .before .before .before .before .before .before .before .before .before .before .interp-region .result .flow) (c .before .before .before .before .before .before .before .before .before .match .keys2)), (Laws.open-by (c .before .before .before .before .before .interp-region2 .result .flow) (c .match2 .keys2)))
+two-arms-join-ends-requires t c κs = (c .before .before .before .before .before .before .before .before .before .before .before .before .before .before .before .before .before .interp-region .ensures .1 .0, c .before .before .before .before .before .before .before .before .interp-region2 .ensures .1 .0, c .before .before .before .before .before .before .before .before .interp-region2 .ensures .1 .1, omega (arith, c .before .before .before .before .before .before .before .before .before .before .before .before .before .before .before .before .before .before .before .before .before .before .before .pre .1 .0 .placed .of .locals, locals-low (c .before .before .before .before .before .before .before .before .before .before .before .before .before .before .before .before .before .before .before .before .before .before .before .args .t .now) (c .before .before .before .before .before .before .before .before .before .before .before .before .before .before .before .before .before .before .before .before .before .before .before .args .x .chunk)), (Laws.open-by (c .before .before .before .before .before .before .before .before .before .before .before .before .before .before .before .before .before .interp-region .result .flow) (c .before .before .before .before .before .before .before .before .before .before .before .before .match .keys2)), (Laws.open-by (c .before .before .before .before .before .before .before .before .interp-region2 .result .flow) (c .before .before .before .match2 .keys2)))
 
--- src/lib.rt:735:15
-two-arms-add-t23 : (t : ℕ) → two-arms-lts.Need-add-t23 (
+-- src/lib.rt:775:15
+two-arms-add-t26 : (t : ℕ) → two-arms-lts.Need-add-t26 (
   interp-region-below t,
   interp-region.Post,
   join-ends-reads.Asked,
   join-ends-reads.Learnt,
 ) (two-arms-at t) two-arms.Post
-two-arms-add-t23 t c = let q = Cycle.two-arms-in (c .before .before .before .before .before .before .before .before .before .before .before .before .before .before .before .before .before .before .before .before .before .args .t .now) (c .before .before .before .before .before .before .before .before .before .before .before .before .before .before .before .before .before .before .before .before .before .args .heights .now) (c .before .before .before .before .before .before .before .before .before .before .before .before .before .before .before .before .before .before .before .before .before .args .blinds .now) (c .before .before .before .before .before .before .before .before .before .before .before .before .before .before .before .before .before .before .before .before .before .args .x) (c .before .before .before .before .before .before .before .before .before .before .before .before .before .before .before .before .before .before .before .before .before .args .target) (c .before .before .before .before .before .before .before .before .before .before .before .before .before .before .before .before .before .before .before .before .before .args .ip) (c .before .before .before .before .before .before .before .before .before .before .before .before .before .before .before .before .before .before .before .before .before .args .end) (c .before .before .before .before .before .before .before .before .before .before .before .before .before .before .before .before .before .before .before .before .before .args .floor) _ _ (c .before .before .before .before .before .before .before .before .before .before .before .before .before .before .before .before .before .before .before .before .before .pre .1 .0) (c .before .before .before .before .before .before .before .before .before .before .before .before .before .before .before .before .before .before .before .before .before .pre .1 .1 .0) (c .before .before .before .before .before .before .before .before .before .before .before .before .before .before .before .before .before .before .before .before .before .pre .1 .1 .1) (c .before .before .before .before .before .before .before .before .before .before .before .before .before .before .before .before .before .before .before .before .before .args .closer) (c .before .before .before .before .before .before .before .before .before .before .before .before .before .before .before .before .before .before .before .before .before .pre .1 .1 .2) in omega (arith, q .2, c .before .before .before .before .before .before .before .before .before .before .before .before .before .before .before .before .before .before .before .before .before .fits)
+two-arms-add-t26 t c = let q = Cycle.two-arms-in (c .before .before .before .before .before .before .before .before .before .before .before .before .before .before .before .before .before .before .before .before .before .before .before .before .args .t .now) (c .before .before .before .before .before .before .before .before .before .before .before .before .before .before .before .before .before .before .before .before .before .before .before .before .args .heights .now) (c .before .before .before .before .before .before .before .before .before .before .before .before .before .before .before .before .before .before .before .before .before .before .before .before .args .blinds .now) (c .before .before .before .before .before .before .before .before .before .before .before .before .before .before .before .before .before .before .before .before .before .before .before .before .args .x) (c .before .before .before .before .before .before .before .before .before .before .before .before .before .before .before .before .before .before .before .before .before .before .before .before .args .target) (c .before .before .before .before .before .before .before .before .before .before .before .before .before .before .before .before .before .before .before .before .before .before .before .before .args .ip) (c .before .before .before .before .before .before .before .before .before .before .before .before .before .before .before .before .before .before .before .before .before .before .before .before .args .end) (c .before .before .before .before .before .before .before .before .before .before .before .before .before .before .before .before .before .before .before .before .before .before .before .before .args .floor) _ _ (c .before .before .before .before .before .before .before .before .before .before .before .before .before .before .before .before .before .before .before .before .before .before .before .before .pre .1 .0) (c .before .before .before .before .before .before .before .before .before .before .before .before .before .before .before .before .before .before .before .before .before .before .before .before .pre .1 .1 .0) (c .before .before .before .before .before .before .before .before .before .before .before .before .before .before .before .before .before .before .before .before .before .before .before .before .pre .1 .1 .1) (c .before .before .before .before .before .before .before .before .before .before .before .before .before .before .before .before .before .before .before .before .before .before .before .before .args .closer) (c .before .before .before .before .before .before .before .before .before .before .before .before .before .before .before .before .before .before .before .before .before .before .before .before .pre .1 .1 .2) in omega (arith, q .2, c .before .before .before .before .before .before .before .before .before .before .before .before .before .before .before .before .before .before .before .before .before .before .before .before .fits)
 
--- src/lib.rt:698:1
+-- src/lib.rt:735:1
 two-arms-same-length-5 : (t : ℕ) → two-arms-lts.Need-same-length-5 (
   interp-region-below t,
   interp-region.Post,
   join-ends-reads.Asked,
   join-ends-reads.Learnt,
 ) (two-arms-at t) two-arms.Post
-two-arms-same-length-5 t c = search needs
+two-arms-same-length-5 t c = c .before .before .before .before .before .before .before .before .before .interp-region2 .kept .1 .0 ∙ c .before .before .before .before .before .before .before .before .before .before .before .before .before .before .before .before .before .before .interp-region .kept .1 .0
 
--- src/lib.rt:698:1
+-- src/lib.rt:735:1
 two-arms-same-length-6 : (t : ℕ) → two-arms-lts.Need-same-length-6 (
   interp-region-below t,
   interp-region.Post,
   join-ends-reads.Asked,
   join-ends-reads.Learnt,
 ) (two-arms-at t) two-arms.Post
-two-arms-same-length-6 t c = search needs
+two-arms-same-length-6 t c = c .before .before .before .before .before .before .before .before .before .interp-region2 .kept .1 .1 .0 ∙ c .before .before .before .before .before .before .before .before .before .before .before .before .before .before .before .before .before .before .interp-region .kept .1 .1 .0
 
--- src/lib.rt:698:1
+-- src/lib.rt:735:1
 two-arms-returns-3 : (t : ℕ) → two-arms-lts.Need-returns-3 (
   interp-region-below t,
   interp-region.Post,
   join-ends-reads.Asked,
   join-ends-reads.Learnt,
 ) (two-arms-at t) two-arms.Post
-two-arms-returns-3 t c = (Cycle.both-joined (c .before .before .before .before .before .before .before .before .before .before .before .before .before .before .before .before .before .before .before .before .before .args .t .now) (c .before .before .before .before .before .before .before .before .before .before .before .before .before .before .before .before .before .before .before .before .before .args .x) (c .before .before .before .before .before .before .before .before .before .before .before .before .before .before .before .before .before .before .before .before .before .args .target) (c .before .before .before .before .before .before .before .before .before .before .before .before .before .before .before .before .before .before .before .before .before .args .ip) (c .before .before .before .before .before .before .before .before .before .before .before .before .before .before .before .before .before .before .before .before .before .args .end) (c .before .before .before .before .before .before .before .before .before .before .before .before .before .before .before .before .before .before .before .before .before .args .floor) (c .before .before .before .before .before .before .before .before .before .before .before .before .before .before .before .before .before .before .before .before .before .args .s) (c .before .before .before .before .before .before .before .before .before .before .before .before .before .before .before .before .before .before .before .before .before .args .b) _ _ (c .before .before .before .before .before .before .before .before .before .before .before .before .before .before .before .interp-region .result) (c .before .before .before .before .before .before .before .before .before .before .before .before .before .before .before .before .before .before .before .before .before .args .closer) (c .before .before .before .before .before .before .before .before .before .before .before .before .before .before .before .before .before .before .before .before .before .pre .1 .1 .2) (c .before .before .before .before .before .before .before .before .before .before .before .before .before .before .before .interp-region .ensures .0) (Laws.open-by (c .before .before .before .before .before .before .before .before .before .before .before .before .before .before .before .interp-region .result .flow) (c .before .before .before .before .before .before .before .before .before .before .match .keys2)) (c .before .before .before .before .before .before .interp-region2 .result) _ (c .before .before .before .before .before .before .interp-region2 .ensures .0) (Laws.open-by (c .before .before .before .before .before .before .interp-region2 .result .flow) (c .before .match2 .keys2)) (c .join-ends .result) (c .join-ends .ensures .0 _), (let q = Cycle.two-arms-in (c .before .before .before .before .before .before .before .before .before .before .before .before .before .before .before .before .before .before .before .before .before .args .t .now) (c .before .before .before .before .before .before .before .before .before .before .before .before .before .before .before .before .before .before .before .before .before .args .heights .now) (c .before .before .before .before .before .before .before .before .before .before .before .before .before .before .before .before .before .before .before .before .before .args .blinds .now) (c .before .before .before .before .before .before .before .before .before .before .before .before .before .before .before .before .before .before .before .before .before .args .x) (c .before .before .before .before .before .before .before .before .before .before .before .before .before .before .before .before .before .before .before .before .before .args .target) (c .before .before .before .before .before .before .before .before .before .before .before .before .before .before .before .before .before .before .before .before .before .args .ip) (c .before .before .before .before .before .before .before .before .before .before .before .before .before .before .before .before .before .before .before .before .before .args .end) (c .before .before .before .before .before .before .before .before .before .before .before .before .before .before .before .before .before .before .before .before .before .args .floor) _ _ (c .before .before .before .before .before .before .before .before .before .before .before .before .before .before .before .before .before .before .before .before .before .pre .1 .0) (c .before .before .before .before .before .before .before .before .before .before .before .before .before .before .before .before .before .before .before .before .before .pre .1 .1 .0) (c .before .before .before .before .before .before .before .before .before .before .before .before .before .before .before .before .before .before .before .before .before .pre .1 .1 .1) (c .before .before .before .before .before .before .before .before .before .before .before .before .before .before .before .before .before .before .before .before .before .args .closer) (c .before .before .before .before .before .before .before .before .before .before .before .before .before .before .before .before .before .before .before .before .before .pre .1 .1 .2) in (omega (arith, q .0, q .1), omega (arith, q .2), c .join-ends .ensures .1)))
+two-arms-returns-3 t c = (Cycle.both-joined (c .before .before .before .before .before .before .before .before .before .before .before .before .before .before .before .before .before .before .before .before .before .before .before .before .args .t .now) (c .before .before .before .before .before .before .before .before .before .before .before .before .before .before .before .before .before .before .before .before .before .before .before .before .args .x) (c .before .before .before .before .before .before .before .before .before .before .before .before .before .before .before .before .before .before .before .before .before .before .before .before .args .target) (c .before .before .before .before .before .before .before .before .before .before .before .before .before .before .before .before .before .before .before .before .before .before .before .before .args .ip) (c .before .before .before .before .before .before .before .before .before .before .before .before .before .before .before .before .before .before .before .before .before .before .before .before .args .end) (c .before .before .before .before .before .before .before .before .before .before .before .before .before .before .before .before .before .before .before .before .before .before .before .before .args .floor) (c .before .before .before .before .before .before .before .before .before .before .before .before .before .before .before .before .before .before .before .before .before .before .before .before .args .s) (c .before .before .before .before .before .before .before .before .before .before .before .before .before .before .before .before .before .before .before .before .before .before .before .before .args .b) _ _ (c .before .before .before .before .before .before .before .before .before .before .before .before .before .before .before .before .before .before .interp-region .result) (c .before .before .before .before .before .before .before .before .before .before .before .before .before .before .before .before .before .before .before .before .before .before .before .before .args .closer) (c .before .before .before .before .before .before .before .before .before .before .before .before .before .before .before .before .before .before .before .before .before .before .before .before .pre .1 .1 .2) (c .before .before .before .before .before .before .before .before .before .before .before .before .before .before .before .before .before .before .interp-region .ensures .0) (Laws.open-by (c .before .before .before .before .before .before .before .before .before .before .before .before .before .before .before .before .before .before .interp-region .result .flow) (c .before .before .before .before .before .before .before .before .before .before .before .before .before .match .keys2)) (c .before .before .before .before .before .before .before .before .before .interp-region2 .result) _ (c .before .before .before .before .before .before .before .before .before .interp-region2 .ensures .0) (Laws.open-by (c .before .before .before .before .before .before .before .before .before .interp-region2 .result .flow) (c .before .before .before .before .match2 .keys2)) (c .join-ends .result) (c .join-ends .ensures .0 _), (let q = Cycle.two-arms-in (c .before .before .before .before .before .before .before .before .before .before .before .before .before .before .before .before .before .before .before .before .before .before .before .before .args .t .now) (c .before .before .before .before .before .before .before .before .before .before .before .before .before .before .before .before .before .before .before .before .before .before .before .before .args .heights .now) (c .before .before .before .before .before .before .before .before .before .before .before .before .before .before .before .before .before .before .before .before .before .before .before .before .args .blinds .now) (c .before .before .before .before .before .before .before .before .before .before .before .before .before .before .before .before .before .before .before .before .before .before .before .before .args .x) (c .before .before .before .before .before .before .before .before .before .before .before .before .before .before .before .before .before .before .before .before .before .before .before .before .args .target) (c .before .before .before .before .before .before .before .before .before .before .before .before .before .before .before .before .before .before .before .before .before .before .before .before .args .ip) (c .before .before .before .before .before .before .before .before .before .before .before .before .before .before .before .before .before .before .before .before .before .before .before .before .args .end) (c .before .before .before .before .before .before .before .before .before .before .before .before .before .before .before .before .before .before .before .before .before .before .before .before .args .floor) _ _ (c .before .before .before .before .before .before .before .before .before .before .before .before .before .before .before .before .before .before .before .before .before .before .before .before .pre .1 .0) (c .before .before .before .before .before .before .before .before .before .before .before .before .before .before .before .before .before .before .before .before .before .before .before .before .pre .1 .1 .0) (c .before .before .before .before .before .before .before .before .before .before .before .before .before .before .before .before .before .before .before .before .before .before .before .before .pre .1 .1 .1) (c .before .before .before .before .before .before .before .before .before .before .before .before .before .before .before .before .before .before .before .before .before .before .before .before .args .closer) (c .before .before .before .before .before .before .before .before .before .before .before .before .before .before .before .before .before .before .before .before .before .before .before .before .pre .1 .1 .2) in (omega (arith, q .0, q .1), omega (arith, q .2), c .join-ends .ensures .1)))
 
 pub +arms-at+block-at+if-at+interp-region+last-pass+loop-at+one-arm+passes-at+two-arms-spec :
     {M : Type 1} → statement M
@@ -2116,8 +2106,8 @@ pub +arms-at+block-at+if-at+interp-region+last-pass+loop-at+one-arm+passes-at+tw
     (block-at-same-length-6 t)
     (block-at-returns-3 t))
     (λ t. if-at-lts.spec (
-      examine-at-reads.Asked,
-      examine-at-reads.Learnt,
+      guard-at-reads.Asked,
+      guard-at-reads.Learnt,
       passed-reads.Asked,
       passed-reads.Learnt,
       refused-at-reads.Asked,
@@ -2127,23 +2117,23 @@ pub +arms-at+block-at+if-at+interp-region+last-pass+loop-at+one-arm+passes-at+tw
     )
     (if-at-at t)
     if-at.Post
-    (if-at-examine-at-requires t)
+    (if-at-guard-at-requires t)
     (if-at-passed-requires t)
     (if-at-refused-at-requires t)
     (if-at-same-length t)
-    (if-at-same-length-2 t)
     (if-at-returns t)
+    (if-at-sub-u t)
     (if-at-arms-at-requires t)
+    (if-at-same-length-2 t)
     (if-at-same-length-3 t)
-    (if-at-same-length-4 t)
     (if-at-returns-2 t))
     (λ t. interp-region-lts.spec (
       instr-at-reads.Asked,
       instr-at-reads.Learnt,
       is-straight-reads.Asked,
       is-straight-reads.Learnt,
-      examine-at-reads.Asked,
-      examine-at-reads.Learnt,
+      straight-at-reads.Asked,
+      straight-at-reads.Learnt,
       passed-reads.Asked,
       passed-reads.Learnt,
       block-at-below t,
@@ -2157,17 +2147,18 @@ pub +arms-at+block-at+if-at+interp-region+last-pass+loop-at+one-arm+passes-at+tw
     (interp-region-add-instr-at t)
     (interp-region-instr-at-requires t)
     (interp-region-is-straight-requires t)
-    (interp-region-examine-at-requires t)
+    (interp-region-straight-at-requires t)
     (interp-region-passed-requires t)
     (interp-region-same-length t)
     (interp-region-same-length-2 t)
     (interp-region-returns t)
-    (interp-region-add-ip t)
     (interp-region-loop-less t)
     (interp-region-loop-again t)
     (interp-region-cast-block-at t)
     (interp-region-block-at-requires t)
     (interp-region-enum-told t)
+    (interp-region-loop-less-2 t)
+    (interp-region-loop-again-2 t)
     (interp-region-enum-told-2 t)
     (interp-region-same-length-3 t)
     (interp-region-same-length-4 t)
@@ -2176,8 +2167,6 @@ pub +arms-at+block-at+if-at+interp-region+last-pass+loop-at+one-arm+passes-at+tw
     (interp-region-same-length-5 t)
     (interp-region-same-length-6 t)
     (interp-region-returns-3 t)
-    (interp-region-loop-less-2 t)
-    (interp-region-loop-again-2 t)
     (interp-region-same-length-7 t)
     (interp-region-same-length-8 t)
     (interp-region-returns-4 t))
@@ -2227,12 +2216,12 @@ pub +arms-at+block-at+if-at+interp-region+last-pass+loop-at+one-arm+passes-at+tw
     (one-arm-add-interp-region t)
     (one-arm-interp-region-requires t)
     (one-arm-enum-told t)
-    (one-arm-add-t22 t)
+    (one-arm-add-t23 t)
     (one-arm-same-length t)
     (one-arm-same-length-2 t)
     (one-arm-returns t)
     (one-arm-join-ends-requires t)
-    (one-arm-add-t21 t)
+    (one-arm-add-t22 t)
     (one-arm-same-length-3 t)
     (one-arm-same-length-4 t)
     (one-arm-returns-2 t))
@@ -2297,18 +2286,18 @@ pub +arms-at+block-at+if-at+interp-region+last-pass+loop-at+one-arm+passes-at+tw
     (two-arms-sub-interp-region t)
     (two-arms-interp-region-requires t)
     (two-arms-enum-told t)
-    (two-arms-add-t25 t)
+    (two-arms-add-t28 t)
     (two-arms-same-length t)
     (two-arms-same-length-2 t)
     (two-arms-returns t)
     (two-arms-interp-region-requires-2 t)
     (two-arms-enum-told-2 t)
-    (two-arms-add-t30 t)
+    (two-arms-add-t33 t)
     (two-arms-same-length-3 t)
     (two-arms-same-length-4 t)
     (two-arms-returns-2 t)
     (two-arms-join-ends-requires t)
-    (two-arms-add-t23 t)
+    (two-arms-add-t26 t)
     (two-arms-same-length-5 t)
     (two-arms-same-length-6 t)
     (two-arms-returns-3 t)

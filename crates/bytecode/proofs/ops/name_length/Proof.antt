@@ -1,22 +1,30 @@
-use lib.ListN.{length, List·getD-map}
-use mathlib.Core.List.{[]}
-use Rattle.definition.specs.Ops.{ops, row}
-use Rattle.definition.specs.Format.{Bytes, bytes}
-use Rattle.bytecode.specs.Names.{names, name-at}
+use Rattle.bytecode.proofs.Table.{length-held}
 use borrow.Author.Needs.{needs}
 use Rattle.bytecode.proofs.ops.name_length.Statement.{statement}
 use Rattle.bytecode.proofs.ops.name_length.Tie as tie
 use Rattle.bytecode.proofs.ops.name_length.Reads as reads
 use Rattle.bytecode.proofs.ops.name_length.Lts as lts
 
--- src/ops.rt:288:5
-array-read-result : tie.Need-array-read-result
-array-read-result c = search needs
+-- src/ops.rt:1224:11
+mul-result : tie.Need-mul-result
+mul-result c = search needs
 
--- src/ops.rt:284:1
+-- src/ops.rt:1224:11
+add-result : tie.Need-add-result
+add-result c = search needs
+
+-- src/ops.rt:1224:5
+mul-result-2 : tie.Need-mul-result-2
+mul-result-2 c = search needs
+
+-- src/ops.rt:1224:5
+element-copy-out-result : tie.Need-element-copy-out-result
+element-copy-out-result c = search needs
+
+-- src/ops.rt:1220:1
 returns : tie.Need-returns
-unfolding name-at names ops row bytes
-returns c = List·getD-map (λ (n : Bytes). length n) names (c .args .row) []
+returns c = length-held (c .before .args .names .now) (c .before .pre .0) (c .before .args .row) (c .before .pre .1)
 
 pub name-length-spec : {M : Type 1} → statement M
-name-length-spec = tie.close (tie.spec array-read-result returns)
+name-length-spec =
+    tie.close (tie.spec mul-result add-result mul-result-2 element-copy-out-result returns)
