@@ -1,4 +1,4 @@
 pub mod Lists
-pub mod Stores
+pub mod Counts
 pub mod Joins
 pub mod Text

@@ -1,5 +1,4 @@
 pub mod Tabulated
 pub mod Model
 pub mod Cover
-pub mod Slots
 pub mod Text

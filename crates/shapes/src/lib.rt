@@ -1,22 +1,19 @@
-// Shapes of operands and locals, and the state of the walk: the shape of each operand and local, with its text places beside it.
+// Shapes of operands and locals, with their text places.
 use value_layout::Widths;
 ghost use mathlib.Core.Path.{_≡_};
 ghost use mathlib.Core.Bool.{Bool, _&&_};
-ghost use mathlib.Core.List.{List, _∷_, _++_, [], reverse};
+ghost use mathlib.Core.List.{List, _∷_, _++_, []};
 ghost use mathlib.Core.Option.{Option, none, some};
 ghost use Prim.Native.Nat.{ℕ, _+_, _*_, _-_, _≤_, _<_};
-ghost use lib.ListN.{length, take, drop, getD, replicate};
-ghost use lib.Seq.{paste};
+ghost use lib.ListN.{take};
 ghost use lib.Dec.{leb, ltb};
 ghost use Rattle.definition.specs.Basics.{saturating-add, is-member};
-ghost use Rattle.definition.specs.Shapes.{unknown, scalar, composite, same-text, same-shape, same-shapes, join};
-ghost use Rattle.definition.specs.Walk.{join-states};
+ghost use Rattle.definition.specs.Shapes.{unknown, scalar, composite, same-text, same-shape, join};
 ghost use Rattle.definition.specs.Instructions.{Chunk};
-ghost use Rattle.definition.specs.Effects.{keep-if, places-within, shift, built-places, packed, nested-places, element-places, elements-alike};
+ghost use Rattle.definition.specs.Effects.{keep-if, places-within, shift, nested-places, element-places, elements-alike};
 ghost use Rattle.value_layout.specs.Sizes.{Wide};
-ghost use Rattle.shapes.specs.Model.{shapeOf, plainOf, placesOf, countOf, valueOf, valueIn, valueAt, stackOf, localsOf, stateOf, pushed, popped, replaced, withLocal, widened};
-ghost use Rattle.shapes.specs.Cover.{covers, covers-all, covers-state};
-ghost use Rattle.shapes.specs.Slots.{Written, Filled, Spread, Joined, Same};
+ghost use Rattle.shapes.specs.Model.{shapeOf, plainOf, placesOf, countOf, valueOf};
+ghost use Rattle.shapes.specs.Cover.{covers};
 ghost use Rattle.shapes.specs.Text.{Holds, packedOf, Means, bytes, Took};
 
 // ---- shapes
@@ -147,7 +144,7 @@ pub struct Places {
     pub at: [u32; 16],
 }
 
-fn no_places() -> Places
+pub fn no_places() -> Places
     ensures { λ r. ⌜ Holds (r .count) (r .at) [] ⌝ }
 {
     Places {
@@ -207,7 +204,7 @@ impl Places {
     }
 
     // The places of one element at `at` more.
-    fn add_text(self, at: u32, v: Value) -> Taken
+    pub fn add_text(self, at: u32, v: Value) -> Taken
         requires { ⌜ self .count ≤ 17 ⌝ }
         ensures { λ r. ⌜ Took at (valueOf v) self (r .places) (r .open) ⌝ }
     {
@@ -252,9 +249,9 @@ impl Places {
 }
 
 // The places after one element more; open where that element's are unknown.
-struct Taken {
-    open: bool,
-    places: Places,
+pub struct Taken {
+    pub open: bool,
+    pub places: Places,
 }
 
 // Those of the first n places of ps that lie in the size bytes from `at` on, counted from there.
@@ -351,7 +348,7 @@ pub fn declared_value(shape: Shape) -> Value
 
 impl Value {
     // Equal shapes, with equal places where they are composites.
-    fn same(self, other: Value) -> bool
+    pub fn same(self, other: Value) -> bool
         ensures { λ r. ⌜ r ≡ same-shape (valueOf self) (valueOf other) ⌝ }
     {
         let a = self.shape;
@@ -454,402 +451,11 @@ impl Value {
     }
 }
 
-// ---- slots
-
-// The shape of an operand or local, and how many of its places are known; over 16 says that they are unknown.
-pub struct Slot {
-    pub shape: Shape,
-    pub known: u8,
-}
-
 // How many places a count says: none where they are unknown.
 pub fn known_places(known: u8) -> usize
     ensures { λ r. ⌜ (r ≤ 16) × (r ≡ countOf known) ⌝ }
 {
     if 16 < known { 0 } else { known as usize }
-}
-
-// The first n of v laid in from `at` on.
-pub fn put(places: &mut [u32; 1536], at: usize, v: [u32; 16], n: usize)
-    requires { ⌜ (length (now places) ≡ 1536) × (at + 16 ≤ 1536) × (n ≤ 16) ⌝ }
-    ensures { λ r. ⌜ now (places .exit) ≡ paste (now (places .entry)) at v n ⌝ }
-{
-    let mut j = 0;
-    while j < n {
-        places[at + j] = v[j];
-        j += 1;
-    }
-}
-
-// The first n of the places from `at` on.
-fn cut(places: &[u32; 1536], at: usize, n: usize) -> [u32; 16]
-    requires { ⌜ (length (now places) ≡ 1536) × (at + 16 ≤ 1536) × (n ≤ 16) ⌝ }
-    ensures { λ r. ⌜ r ≡ paste (replicate 16 0) 0 (drop at (now (places .entry))) n ⌝ }
-{
-    let mut out = [0u32; 16];
-    let mut j = 0;
-    while j < n {
-        out[j] = places[at + j];
-        j += 1;
-    }
-    out
-}
-
-// The value of slot number i. Places are copied only as far as they are known.
-pub fn value_in(slot: Slot, places: &[u32; 1536], i: usize) -> Value
-    requires { ⌜ (length (now places) ≡ 1536) × (i < 96) ⌝ }
-    ensures { λ r. ⌜ valueOf r ≡ valueIn slot (now (places .entry)) i ⌝ }
-{
-    let shape = slot.shape;
-    let n = known_places(slot.known);
-    let q = cut(places, i * 16, n);
-    Value {
-        shape: shape,
-        known: slot.known,
-        places: q,
-    }
-}
-
-// The slots from lo up to hi become `slot`.
-pub fn fill_slots(slots: [Slot; 96], lo: usize, hi: usize, slot: Slot) -> [Slot; 96]
-    requires { ⌜ (lo ≤ hi) × (hi ≤ 96) ⌝ }
-    ensures { λ r. ⌜ Spread slots lo hi slot r ⌝ }
-{
-    let mut out = slots;
-    let mut i = lo;
-    while i < hi {
-        out[i] = slot;
-        i += 1;
-    }
-    out
-}
-
-// ---- states
-
-// 64 operands, then 32 locals; sixteen places for each. What lies above the height, or past a count, means nothing.
-pub struct State {
-    pub height: usize,
-    pub slots: [Slot; 96],
-    pub places: [u32; 1536],
-}
-
-// No operands, and every local unknown.
-pub fn empty_state() -> State
-    ensures { λ r. ⌜ (r .height ≡ 0) × ((locals : ℕ) → locals ≤ 32 → stateOf locals r ≡ record { stack = []; locals = replicate locals unknown }) ⌝ }
-{
-    let blank = Slot {
-        shape: Shape::Unknown,
-        known: 0,
-    };
-    State {
-        height: 0,
-        slots: [blank; 96],
-        places: [0u32; 1536],
-    }
-}
-
-impl State {
-    // The value of slot i.
-    pub fn read(self, i: usize) -> Value
-        requires { ⌜ i < 96 ⌝ }
-        ensures { λ r. ⌜ valueOf r ≡ valueAt (self .slots) (self .places) i ⌝ }
-    {
-        let slot = self.slots[i];
-        value_in(slot, &self.places, i)
-    }
-
-    // Slot i becomes v, and the others stay.
-    fn write(self, i: usize, v: Value) -> State
-        requires { ⌜ i < 96 ⌝ }
-        ensures { λ r. ⌜ Written self i (valueOf v) r ⌝ }
-    {
-        let w = v.places;
-        let n = known_places(v.known);
-        let shape = v.shape;
-        let mut out = self;
-        out.slots[i] = Slot {
-            shape: shape,
-            known: v.known,
-        };
-        put(&mut out.places, i * 16, w, n);
-        out
-    }
-
-    pub fn push(self, v: Value) -> State
-        requires { ⌜ self .height < 64 ⌝ }
-        ensures { λ r. ⌜ (r .height ≡ self .height + 1) × ((locals : ℕ) → locals ≤ 32 → stateOf locals r ≡ pushed (valueOf v) (stateOf locals self)) ⌝ }
-    {
-        let h = self.height;
-        let mut out = self.write(h, v);
-        out.height = h + 1;
-        out
-    }
-
-    // Takes the n top operands.
-    pub fn pop(self, n: usize) -> State
-        requires { ⌜ n ≤ self .height ⌝ }
-        ensures { λ r. ⌜ (r .height ≡ self .height - n) × ((locals : ℕ) → stateOf locals r ≡ popped n (stateOf locals self)) ⌝ }
-    {
-        let h = self.height;
-        let mut out = self;
-        out.height = h - n;
-        out
-    }
-
-    // The operand under the i top ones; unknown where there is none.
-    pub fn operand(self, i: usize) -> Value
-        requires { ⌜ self .height ≤ 64 ⌝ }
-        ensures { λ r. ⌜ valueOf r ≡ getD (stackOf self) i unknown ⌝ }
-    {
-        let h = self.height;
-        if i < h {
-            self.read(h - 1 - i)
-        } else {
-            unknown_value()
-        }
-    }
-
-    // The top operand once more.
-    pub fn dup(self) -> State
-        requires { ⌜ (0 < self .height) × (self .height < 64) ⌝ }
-        ensures { λ r. ⌜ (r .height ≡ self .height + 1) × ((locals : ℕ) → locals ≤ 32 → stateOf locals r ≡ pushed (getD (stackOf self) 0 unknown) (stateOf locals self)) ⌝ }
-    {
-        let v = self.operand(0);
-        self.push(v)
-    }
-
-    // The slots from lo up to hi become v.
-    fn fill(self, lo: usize, hi: usize, v: Value) -> State
-        requires { ⌜ (lo ≤ hi) × (hi ≤ 96) ⌝ }
-        ensures { λ r. ⌜ Filled self lo hi (valueOf v) r ⌝ }
-    {
-        let mut out = self;
-        let mut i = lo;
-        while i < hi {
-            out = out.write(i, v);
-            i += 1;
-        }
-        out
-    }
-
-    // Takes operands, then pushes v so many times and above it so many of another.
-    pub fn replace(self, take: usize, v: Value, times: usize, above: Value, more: usize) -> State
-        requires { ⌜ (take ≤ self .height) × (self .height - take + times + more ≤ 64) ⌝ }
-        ensures { λ r. ⌜ (r .height ≡ self .height - take + times + more) × ((locals : ℕ) → locals ≤ 32 → stateOf locals r ≡ replaced take (valueOf v) times (valueOf above) more (stateOf locals self)) ⌝ }
-    {
-        let a = self.height - take;
-        let b = a + times;
-        let mid = self.fill(a, b, v);
-        let mut out = mid.fill(b, b + more, above);
-        out.height = b + more;
-        out
-    }
-
-    // The local i of so many; one past the last is unknown.
-    pub fn get_local(self, i: usize, locals: usize) -> Value
-        requires { ⌜ locals ≤ 32 ⌝ }
-        ensures { λ r. ⌜ valueOf r ≡ getD (localsOf locals self) i unknown ⌝ }
-    {
-        if i < locals {
-            self.read(64 + i)
-        } else {
-            unknown_value()
-        }
-    }
-
-    // A local past the last is not written.
-    pub fn set_local(self, i: usize, v: Value, locals: usize) -> State
-        requires { ⌜ (locals ≤ 32) × (self .height ≤ 64) ⌝ }
-        ensures { λ r. ⌜ (r .height ≡ self .height) × (stateOf locals r ≡ withLocal i (valueOf v) (stateOf locals self)) ⌝ }
-    {
-        if i < locals {
-            self.write(64 + i, v)
-        } else {
-            self
-        }
-    }
-
-    // A local becomes unknown.
-    pub fn forget_local(self, i: usize, locals: usize) -> State
-        requires { ⌜ (locals ≤ 32) × (self .height ≤ 64) ⌝ }
-        ensures { λ r. ⌜ (r .height ≡ self .height) × (stateOf locals r ≡ withLocal i unknown (stateOf locals self)) ⌝ }
-    {
-        let v = unknown_value();
-        self.set_local(i, v, locals)
-    }
-
-    // In the slots from lo up to hi the join with the other state's. Where this state covers the other there is nothing to write.
-    fn join_slots(self, other: State, lo: usize, hi: usize) -> State
-        requires { ⌜ (lo ≤ hi) × (hi ≤ 96) ⌝ }
-        ensures { λ r. ⌜ Joined self other lo hi r ⌝ }
-    {
-        let mut out = self;
-        let mut i = lo;
-        while i < hi {
-            let s = out.slots[i];
-            let t = other.slots[i];
-            let x = value_in(s, &out.places, i);
-            let y = value_in(t, &other.places, i);
-            if x.covers(y) {
-                i += 1;
-            } else {
-                let v = x.join(y);
-                out = out.write(i, v);
-                i += 1;
-            }
-        }
-        out
-    }
-
-    // The join of two states of one height.
-    pub fn join(self, other: State, locals: usize) -> State
-        requires { ⌜ (self .height ≤ 64) × (self .height ≡ other .height) × (locals ≤ 32) ⌝ }
-        ensures { λ r. ⌜ (r .height ≡ self .height) × (stateOf locals r ≡ join-states (stateOf locals self) (stateOf locals other)) ⌝ }
-    {
-        let h = self.height;
-        let low = self.join_slots(other, 0, h);
-        low.join_slots(other, 64, 64 + locals)
-    }
-
-    // The operands stay, and each local becomes its join with the other state's.
-    pub fn join_locals(self, other: State, locals: usize) -> State
-        requires { ⌜ (self .height ≤ 64) × (locals ≤ 32) ⌝ }
-        ensures { λ r. ⌜ (r .height ≡ self .height) × (stateOf locals r ≡ widened (stateOf locals self) (stateOf locals other)) ⌝ }
-    {
-        self.join_slots(other, 64, 64 + locals)
-    }
-
-    // Whether the slots from lo up to hi of two states are the same.
-    fn same_slots(self, other: State, lo: usize, hi: usize) -> bool
-        requires { ⌜ (lo ≤ hi) × (hi ≤ 96) ⌝ }
-        ensures { λ r. ⌜ Same (valueAt (self .slots) (self .places)) (valueAt (other .slots) (other .places)) lo hi r ⌝ }
-    {
-        let mut i = lo;
-        while i < hi {
-            let s = self.slots[i];
-            let t = other.slots[i];
-            let x = value_in(s, &self.places, i);
-            let y = value_in(t, &other.places, i);
-            if x.same(y) {
-                i += 1;
-            } else {
-                return false;
-            }
-        }
-        true
-    }
-
-    pub fn same_stack(self, other: State) -> bool
-        requires { ⌜ self .height ≤ 64 ⌝ }
-        ensures { λ r. ⌜ r ≡ same-shapes (stackOf self) (stackOf other) ⌝ }
-    {
-        let h = self.height;
-        if h != other.height {
-            return false;
-        }
-        self.same_slots(other, 0, h)
-    }
-
-    pub fn same_locals(self, other: State, locals: usize) -> bool
-        requires { ⌜ locals ≤ 32 ⌝ }
-        ensures { λ r. ⌜ r ≡ same-shapes (localsOf locals self) (localsOf locals other) ⌝ }
-    {
-        self.same_slots(other, 64, 64 + locals)
-    }
-
-    // Whether the slots from lo up to hi of this state cover the other's.
-    fn covers_slots(self, other: State, lo: usize, hi: usize) -> bool
-        requires { ⌜ (lo ≤ hi) × (hi ≤ 96) ⌝ }
-        ensures { λ r. ⌜ Same (λ j. join (valueAt (self .slots) (self .places) j) (valueAt (other .slots) (other .places) j)) (valueAt (self .slots) (self .places)) lo hi r ⌝ }
-    {
-        let mut i = lo;
-        while i < hi {
-            let s = self.slots[i];
-            let t = other.slots[i];
-            let x = value_in(s, &self.places, i);
-            let y = value_in(t, &other.places, i);
-            if x.covers(y) {
-                i += 1;
-            } else {
-                return false;
-            }
-        }
-        true
-    }
-
-    // Whether a join with the other state's locals would leave this state's as they are.
-    pub fn covers_locals(self, other: State, locals: usize) -> bool
-        requires { ⌜ locals ≤ 32 ⌝ }
-        ensures { λ r. ⌜ r ≡ covers-all (localsOf locals self) (localsOf locals other) ⌝ }
-    {
-        self.covers_slots(other, 64, 64 + locals)
-    }
-
-    // Whether a join with the other state, of the same height, would leave this one as it is.
-    pub fn covers(self, other: State, locals: usize) -> bool
-        requires { ⌜ (self .height ≤ 64) × (locals ≤ 32) ⌝ }
-        ensures { λ r. ⌜ r ≡ covers-state (stateOf locals self) (stateOf locals other) ⌝ }
-    {
-        let h = self.height;
-        if h != other.height {
-            return false;
-        }
-        if self.covers_slots(other, 0, h) {
-            self.covers_locals(other, locals)
-        } else {
-            false
-        }
-    }
-
-    // The bytes of the n top operands, packed.
-    pub fn packed_size(self, n: usize, w: Widths) -> Packed
-        requires { ⌜ (n ≤ self .height) × (self .height ≤ 64) ⌝ }
-        ensures { λ r. ⌜ ((c : Chunk) → Wide w c → packedOf r ≡ packed c (take n (stackOf self))) ⌝ }
-    {
-        let lo = self.height - n;
-        let mut size: u32 = 0;
-        let mut i = 0;
-        while i < n {
-            let s = self.slots[lo + i];
-            let shape = s.shape;
-            let p = shape.packed_size(w);
-            let Packed::Bytes(b) = p else {
-                return Packed::NotKnown;
-            };
-            size = saturating_add(size, b);
-            i += 1;
-        }
-        Packed::Bytes(size)
-    }
-
-    // The text places of a body packed from the n top operands.
-    pub fn built_text_layout(self, n: usize, w: Widths) -> Built
-        requires { ⌜ (n ≤ self .height) × (self .height ≤ 64) ⌝ }
-        ensures { λ r. ⌜ ((c : Chunk) → Wide w c → Means r (built-places c 0 (reverse (take n (stackOf self))))) ⌝ }
-    {
-        let lo = self.height - n;
-        let mut at: u32 = 0;
-        let mut out = no_places();
-        let mut i = 0;
-        while i < n {
-            let s = self.slots[lo + i];
-            let v = value_in(s, &self.places, lo + i);
-            let t = out.add_text(at, v);
-            let shape = v.shape;
-            let p = shape.packed_size(w);
-            if t.open {
-                return open_layout();
-            }
-            let Packed::Bytes(b) = p else {
-                return open_layout();
-            };
-            let q = t.places;
-            out = q;
-            at = saturating_add(at, b);
-            i += 1;
-        }
-        out.layout()
-    }
 }
 
 // How many text places a new composite has: so many, over sixteen, or not known.
@@ -864,7 +470,7 @@ pub struct Built {
     pub places: [u32; 16],
 }
 
-fn open_layout() -> Built
+pub fn open_layout() -> Built
     ensures { λ r. ⌜ Means r none ⌝ }
 {
     Built {
@@ -874,7 +480,7 @@ fn open_layout() -> Built
 }
 
 impl Places {
-    fn layout(self) -> Built
+    pub fn layout(self) -> Built
         ensures { λ r. ⌜ ((l : List ℕ) → Holds (self .count) (self .at) l → Means r (some l)) ⌝ }
     {
         let k = self.count;

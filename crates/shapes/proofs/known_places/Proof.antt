@@ -1,4 +1,4 @@
-use Rattle.shapes.proofs.Stores.{count-known, count-unknown}
+use Rattle.shapes.proofs.Counts.{count-known, count-unknown}
 use Rattle.shapes.proofs.known_places.Statement.{statement}
 use Rattle.shapes.proofs.known_places.Tie as tie
 use borrow.Author.Needs.{needs}

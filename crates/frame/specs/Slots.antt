@@ -1,13 +1,10 @@
 -- What the functions over slots leave.
-use Prim.Native.Nat.{ℕ, _+_, _≤_, _<_}
+use Prim.Native.Nat.{ℕ, _≤_, _<_}
 use mathlib.Core.Path.{_≡_}
 use mathlib.Core.Bool.{Bool, true, false}
-use mathlib.Core.List.{List}
-use lib.ListN.{length, getD}
 use Rattle.definition.specs.Shapes.{Shape as AnyShape, same-shape, join}
-use Rattle.shapes.specs.declared.State.{State}
-use Rattle.shapes.specs.declared.Slot.{Slot}
-use Rattle.shapes.specs.Model.{valueAt, blank}
+use Rattle.frame.specs.declared.State.{State}
+use Rattle.frame.specs.Model.{valueAt}
 
 -- r is s with the value v in slot i
 pub record Written (s : State) (i : ℕ) (v : AnyShape) (r : State) : Type 0 where
@@ -21,17 +18,10 @@ pub record Filled (s : State) (lo hi : ℕ) (v : AnyShape) (r : State) : Type 0 
   pub here : (j : ℕ) → lo ≤ j → j < hi → valueAt (r .slots) (r .places) j ≡ v
   pub there : (j : ℕ) → (lo ≤ j → j < hi → ⊥) → valueAt (r .slots) (r .places) j ≡ valueAt (s .slots) (s .places) j
 
--- r has x in the slots from lo up to hi, and what `slots` has in the others
-pub record Spread (slots : List Slot) (lo hi : ℕ) (x : Slot) (r : List Slot) : Type 0 where
-  pub long : length r ≡ length slots
-  pub here : (j : ℕ) → lo ≤ j → j < hi → getD r j blank ≡ x
-  pub there : (j : ℕ) → (lo ≤ j → j < hi → ⊥) → getD r j blank ≡ getD slots j blank
-
--- u is s with the value v in slot i and w in so many slots above it
-pub record Laid (s : State) (i : ℕ) (v : AnyShape) (more : ℕ) (w : AnyShape) (u : State) : Type 0 where
-  pub mid : State
-  pub first : Written s i v mid
-  pub rest : Filled mid (i + 1) (i + 1 + more) w u
+-- r is s with the values of b in the slots from lo up to hi
+pub record Copied (s b : State) (lo hi : ℕ) (r : State) : Type 0 where
+  pub here : (j : ℕ) → lo ≤ j → j < hi → valueAt (r .slots) (r .places) j ≡ valueAt (b .slots) (b .places) j
+  pub there : (j : ℕ) → (lo ≤ j → j < hi → ⊥) → valueAt (r .slots) (r .places) j ≡ valueAt (s .slots) (s .places) j
 
 -- r is s with the joins with b in the slots from lo up to hi
 pub record Joined (s b : State) (lo hi : ℕ) (r : State) : Type 0 where
