@@ -25,6 +25,14 @@ use Rattle.shapes.proofs.Lists.{lt-or-ge, down-same, down-length, up-same}
 use Rattle.shapes.proofs.Joins.{covers-join}
 use Rattle.frame.proofs.Stores.{model}
 
+-- ── One slot ─────────────────────────────────────────────────────────────────────────────
+
+-- a slot that covers the other's is its join
+pub join-covered : (s b : State) (i : ℕ) → covers (valueAt (s .slots) (s .places) i) (valueAt (b .slots) (b .places) i) ≡ true
+    → Written s i (join (valueAt (s .slots) (s .places) i) (valueAt (b .slots) (b .places) i)) s
+join-covered s b i e =
+    record { height = refl; here = sym (covers-join (valueAt (s .slots) (s .places) i) (valueAt (b .slots) (b .places) i) e); there = λ j n. refl }
+
 -- ── Joins of states ───────────────────────────────────────────────────────────────────────
 
 join-down : (f g : ℕ → AnyShape) (n : ℕ) → join-all (down f n) (down g n) ≡ down (λ j. join (f j) (g j)) n
@@ -54,16 +62,6 @@ module _ (s b o : State) (lo i : ℕ) (h : lo ≤ i) (k : Joined s b lo i o) whe
             (lt-or-ge j i);
         there = λ j n. w .there j (λ e. n (omega arith) (omega arith)) ∙ k .there j (λ l u. n l (omega arith));
       }
-
-  -- a slot that covers the other's is its join
-  pub join-covered : covers (valueAt (s .slots) (s .places) i) (valueAt (b .slots) (b .places) i) ≡ true → Joined s b lo (i + 1) o
-  join-covered e =
-      join-more o
-      (record {
-        height = refl;
-        here = join-next ∙ sym (covers-join (valueAt (s .slots) (s .places) i) (valueAt (b .slots) (b .places) i) e);
-        there = λ j n. refl;
-      })
 
 pub widen-law : (a b r : State) (n : ℕ) → a .height ≤ 64 → n ≤ 32 → Joined a b 64 (64 + n) r
     → (r .height ≡ a .height) × (stateOf n r ≡ widened (stateOf n a) (stateOf n b))

@@ -4,7 +4,7 @@ use mathlib.Core.Path.{_≡_, refl, sym, ap, ap₂, subst, _∙_}
 use mathlib.Core.Logic.{⊎-elim}
 use mathlib.Core.Option.{Option, none, some}
 use mathlib.Core.List.{List, [], _∷_, _++_, map}
-use Prim.Native.Nat.{ℕ, zero, suc, _+_, _*_, _-_, _≤_, _<_}
+use Prim.Native.Nat.{ℕ, zero, suc, _+_, _*_, _-_, _/_, _%_, _≤_, _<_}
 use native.Mathlib.Numerals.{add-one}
 use native.Mathlib.Omega.{arith}
 use borrow.Author.Tests.{le-leb, lt-leb}
@@ -23,6 +23,86 @@ use Rattle.frame.specs.Model.{slotOf, shape-in, valueIn, valueAt, at, st
 use Rattle.frame.specs.Slots.{Written, Filled, Copied}
 use Rattle.shapes.proofs.Lists.{lt-or-ge, down-same, down-drop, down-filled, up-same, up-set, up-length, up-replicate, pasted-here, stretch-other}
 use Rattle.shapes.proofs.Counts.{count-known, places-by}
+
+-- ── Words ─────────────────────────────────────────────────────────────────────────────────
+
+shape-unknown : (t k n : ℕ) → t ≡ 0 → shape-in t k n ≡ Unknown
+unfolding shape-in
+shape-unknown t k n e = rw e
+
+shape-scalar : (t k n : ℕ) → t ≡ 1 → shape-in t k n ≡ Scalar k
+unfolding shape-in
+shape-scalar t k n e = rw e
+
+shape-composite : (t k n : ℕ) → (t ≡ 0 → ⊥) → (t ≡ 1 → ⊥) → shape-in t k n ≡ Composite k n
+unfolding shape-in
+shape-composite zero k n p q = absurd (p refl)
+shape-composite (suc zero) k n p q = absurd (q refl)
+shape-composite (suc (suc t)) k n p q = refl
+
+slot : {s t : Shape} {k m : ℕ} → s ≡ t → k ≡ m → _≡_ {A = Slot} (record { shape = s; known = k }) (record { shape = t; known = m })
+slot p q = λ i. record { shape = p i; known = q i }
+
+-- a word that is read
+module _ (w : ℕ) where
+  pub in-unknown : w % 4 ≡ 0 → record { shape = Unknown; known = w / 1024 % 256 } ≡ slotOf w
+  unfolding slotOf
+  in-unknown e = slot (sym (shape-unknown (w % 4) (w / 4 % 256) (w / 262144 % 4294967296) e)) refl
+
+  pub in-scalar : w % 4 ≡ 1 → record { shape = Scalar (w / 4 % 256); known = w / 1024 % 256 } ≡ slotOf w
+  unfolding slotOf
+  in-scalar e = slot (sym (shape-scalar (w % 4) (w / 4 % 256) (w / 262144 % 4294967296) e)) refl
+
+  pub in-composite : (w % 4 ≡ 0 → ⊥) → (w % 4 ≡ 1 → ⊥) → record { shape = Composite (w / 4 % 256) (w / 262144 % 4294967296); known = w / 1024 % 256 } ≡ slotOf w
+  unfolding slotOf
+  in-composite p q = slot (sym (shape-composite (w % 4) (w / 4 % 256) (w / 262144 % 4294967296) p q)) refl
+
+-- a word that is made
+module _ (s : Shape) (known : ℕ) (hk : known < 256) where
+  pub of-unknown : s ≡ Unknown → slotOf (1024 * known) ≡ record { shape = s; known = known }
+  unfolding slotOf
+  of-unknown e =
+      let a : 1024 * known % 4 ≡ 0 = omega arith in
+      let b : 1024 * known / 1024 ≡ known = omega arith in
+      let m : known % 256 ≡ known = omega arith in
+      slot (shape-unknown _ _ _ a ∙ sym e) (ap (λ (z : ℕ). z % 256) b ∙ m)
+
+  pub of-scalar : (k : ℕ) → k < 256 → s ≡ Scalar k → slotOf (1 + 4 * k + 1024 * known) ≡ record { shape = s; known = known }
+  unfolding slotOf
+  of-scalar k h e =
+      let a : (1 + 4 * k + 1024 * known) % 4 ≡ 1 = omega arith in
+      let b : (1 + 4 * k + 1024 * known) / 1024 ≡ known = omega arith in
+      let d : (1 + 4 * k + 1024 * known) / 4 ≡ k + 256 * known = omega arith in
+      let m : known % 256 ≡ known = omega arith in
+      let o : (k + 256 * known) % 256 ≡ k = omega arith in
+      slot (shape-scalar _ _ _ a ∙ ap Scalar (ap (λ (z : ℕ). z % 256) d ∙ o) ∙ sym e) (ap (λ (z : ℕ). z % 256) b ∙ m)
+
+  pub of-composite : (k n : ℕ) → k < 256 → n < 4294967296 → s ≡ Composite k n → slotOf (2 + 4 * k + 1024 * known + 262144 * n) ≡ record { shape = s; known = known }
+  unfolding slotOf
+  of-composite k n h l e =
+      let a : (2 + 4 * k + 1024 * known + 262144 * n) % 4 ≡ 2 = omega arith in
+      let b : (2 + 4 * k + 1024 * known + 262144 * n) / 1024 ≡ known + 256 * n = omega arith in
+      let d : (2 + 4 * k + 1024 * known + 262144 * n) / 4 ≡ k + 256 * (known + 256 * n) = omega arith in
+      let f : (2 + 4 * k + 1024 * known + 262144 * n) / 262144 ≡ n = omega arith in
+      let m : (known + 256 * n) % 256 ≡ known = omega arith in
+      let o : (k + 256 * (known + 256 * n)) % 256 ≡ k = omega arith in
+      let q : n % 4294967296 ≡ n = omega arith in
+      slot
+      (shape-composite _ _ _ (λ z. omega arith) (λ z. omega arith)
+      ∙ ap₂ Composite (ap (λ (z : ℕ). z % 256) d ∙ o) (ap (λ (z : ℕ). z % 4294967296) f ∙ q)
+      ∙ sym e)
+      (ap (λ (z : ℕ). z % 256) b ∙ m)
+
+-- a word without places says what its value is
+pub plain-same : (slots others ps qs : List ℕ) (i : ℕ) → getD slots i 0 ≡ getD others i 0 → countOf (slotOf (getD slots i 0) .known) ≡ 0
+    → valueAt slots ps i ≡ valueAt others qs i
+unfolding valueAt valueIn
+plain-same slots others ps qs i e h =
+    rw (← e)
+    (ap (shapeOf (slotOf (getD slots i 0) .shape)) (places-by (slotOf (getD slots i 0) .known) (take 16 (drop (i * 16) ps)) (take 16 (drop (i * 16) qs)) none-known))
+  where
+    none-known : slotOf (getD slots i 0) .known ≤ 16 → take (slotOf (getD slots i 0) .known) (take 16 (drop (i * 16) ps)) ≡ take (slotOf (getD slots i 0) .known) (take 16 (drop (i * 16) qs))
+    none-known l = rw (count-known (slotOf (getD slots i 0) .known) l ∙ h)
 
 -- ── A slot that is read ───────────────────────────────────────────────────────────────────
 
@@ -44,12 +124,12 @@ read-law slot ps i n q hp hi hn e =
 
 -- ── A slot that is written ────────────────────────────────────────────────────────────────
 
-module _ (slots : List Slot) (ps : List ℕ) (i : ℕ) (x : Slot) (v : List ℕ) (n : ℕ) (hi : i < 96) (hl : length slots ≡ 96) (hp : length ps ≡ 1536)
+module _ (slots : List ℕ) (ps : List ℕ) (i w : ℕ) (x : Slot) (v : List ℕ) (n : ℕ) (e : slotOf w ≡ x) (hi : i < 96) (hl : length slots ≡ 96) (hp : length ps ≡ 1536)
     (hv : length v ≡ 16) (hn : n ≡ countOf (x .known)) (few : n ≤ 16) where
-  pub stored-here : valueAt (set slots i x) (paste ps (i * 16) v n) i ≡ shapeOf (x .shape) (placesOf (x .known) v)
+  pub stored-here : valueAt (set slots i w) (paste ps (i * 16) v n) i ≡ shapeOf (x .shape) (placesOf (x .known) v)
   unfolding valueAt valueIn
   stored-here =
-      rw (getD-set-same slots i x blank (omega arith))
+      rw (getD-set-same slots i w 0 (omega arith), e)
       (ap (shapeOf (x .shape)) (places-by (x .known) (take 16 (drop (i * 16) (paste ps (i * 16) v n))) v known))
     where
       known : x .known ≤ 16 → take (x .known) (take 16 (drop (i * 16) (paste ps (i * 16) v n))) ≡ take (x .known) v
@@ -60,9 +140,12 @@ module _ (slots : List Slot) (ps : List ℕ) (i : ℕ) (x : Slot) (v : List ℕ)
           ∙ ap (λ (m : ℕ). take k (drop (i * 16) (paste ps (i * 16) v m))) u
           ∙ pasted-here ps (i * 16) v k (omega arith) (omega arith)
 
-  pub stored-there : (j : ℕ) → (j ≡ i → ⊥) → valueAt (set slots i x) (paste ps (i * 16) v n) j ≡ valueAt slots ps j
+  pub stored-there : (j : ℕ) → (j ≡ i → ⊥) → valueAt (set slots i w) (paste ps (i * 16) v n) j ≡ valueAt slots ps j
   unfolding valueAt valueIn
-  stored-there j ne = rw (getD-set-other slots i j x blank ne, stretch-other ps i v n hi hp few (omega arith) j ne)
+  stored-there j ne = rw (getD-set-other slots i j w 0 ne, stretch-other ps i v n hi hp few (omega arith) j ne)
+
+  pub stored : (h : ℕ) → Written (at h slots ps) i (shapeOf (x .shape) (placesOf (x .known) v)) (at h (set slots i w) (paste ps (i * 16) v n))
+  stored h = record { height = refl; here = stored-here; there = stored-there }
 
 -- ── A store as a step on the model ────────────────────────────────────────────────────────
 
@@ -112,9 +195,29 @@ local-past s i v n h = model refl (sym (set-out (localsOf n s) i v (rw (up-lengt
 pub get-past : (s : State) (i n : ℕ) → n ≤ i → unknown ≡ getD (localsOf n s) i unknown
 get-past s i n h = sym (List·getD-eq-default (localsOf n s) unknown (rw (up-length (valueAt (s .slots) (s .places)) 64 n) h))
 
-pub empty-law : (s : State) (n : ℕ) → s .height ≡ 0 → n ≤ 32 → s .slots ≡ replicate 96 blank → stateOf n s ≡ record { stack = []; locals = replicate n unknown }
-unfolding valueAt valueIn shapeOf
-empty-law s n h l e =
-    model (ap (λ (m : ℕ). down (valueAt (s .slots) (s .places)) m) h)
-    (up-replicate (valueAt (s .slots) (s .places)) unknown 64 n
-    (λ j a b. rw (e, getD-replicate 96 j blank blank (let q : j < 96 = omega arith in q))))
+-- words of zero are unknown locals
+pub empty-law : (slots ps : List ℕ) (n : ℕ) → n ≤ 32 → slots ≡ replicate 96 0 → stateOf n (at 0 slots ps) ≡ record { stack = []; locals = replicate n unknown }
+unfolding valueAt valueIn slotOf shape-in shapeOf
+empty-law slots ps n l e =
+    model refl
+    (up-replicate (valueAt slots ps) unknown 64 n
+    (λ j a b. rw (e, getD-replicate {A = ℕ} 96 j 0 0 (let q : j < 96 = omega arith in q))))
+
+-- ── Copies ────────────────────────────────────────────────────────────────────────────────
+
+pub copy-start : (s b : State) (lo : ℕ) → Copied s b lo lo s
+copy-start s b lo = record { here = λ j l u. absurd (omega arith); there = λ j n. refl }
+
+pub copy-more : (s b o r : State) (lo i : ℕ) → lo ≤ i → Copied s b lo i o → Written o i (valueAt (b .slots) (b .places) i) r → Copied s b lo (i + 1) r
+copy-more s b o r lo i h k w =
+    record {
+      here = λ j l u. ⊎-elim (λ (a : j < i). w .there j (λ e. omega arith) ∙ k .here j l a)
+          (λ (a : i ≤ j). subst (λ (z : ℕ). valueAt (r .slots) (r .places) z ≡ valueAt (b .slots) (b .places) z) (let e : i ≡ j = omega arith in e) (w .here))
+          (lt-or-ge j i);
+      there = λ j n. w .there j (λ e. n (omega arith) (omega arith)) ∙ k .there j (λ l u. n l (omega arith));
+    }
+
+pub copy-law : (s b m r : State) (h n : ℕ) → h ≤ 64 → n ≤ 32 → Copied s b 0 h m → Copied m b 64 (64 + n) r
+    → stateOf n (at h (r .slots) (r .places)) ≡ stateOf n (at h (b .slots) (b .places))
+copy-law s b m r h n l k p q =
+    model (down-same _ _ h (λ j u. q .there j (λ v w. omega arith) ∙ p .here j (omega arith) u)) (up-same _ _ 64 n (λ j v u. q .here j v u))

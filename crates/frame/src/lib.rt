@@ -76,7 +76,7 @@ fn slot_in(w: u64) -> Slot
 
 // Whether a word says by itself what its value is: no place is known.
 fn is_plain(w: u64) -> bool
-    ensures { λ r. ⌜ r ≡ true → countOf (slotOf w .known) ≡ 0 ⌝ }
+    ensures { λ r. ⌜ (r ≡ true → countOf (slotOf w .known) ≡ 0) ⌝ }
 {
     let slot = slot_in(w);
     shapes::known_places(slot.known) == 0
@@ -87,7 +87,7 @@ fn is_plain(w: u64) -> bool
 // The first n of v laid in from `at` on.
 fn put(places: &mut [u32; 1536], at: usize, v: [u32; 16], n: usize)
     requires { ⌜ (length (now places) ≡ 1536) × (at + 16 ≤ 1536) × (n ≤ 16) ⌝ }
-    ensures { λ r. ⌜ now (places .exit) ≡ paste (now (places .entry)) at v n ⌝ }
+    ensures { λ r. ⌜ (length (now (places .exit)) ≡ 1536) × (now (places .exit) ≡ paste (now (places .entry)) at v n) ⌝ }
 {
     let mut j = 0;
     while j < n {
@@ -141,7 +141,7 @@ pub fn shape_at(slots: &[u64; 96], i: usize) -> Shape
 // Slot i becomes v, and the others stay.
 pub fn write(slots: &mut [u64; 96], places: &mut [u32; 1536], i: usize, v: Value)
     requires { ⌜ Long (now slots) (now places) × (i < 96) ⌝ }
-    ensures { λ r. ⌜ ((h : ℕ) → Written (at h (now (slots .entry)) (now (places .entry))) i (valueOf v) (at h (now (slots .exit)) (now (places .exit)))) ⌝ }
+    ensures { λ r. ⌜ Long (now (slots .exit)) (now (places .exit)) × ((h : ℕ) → Written (at h (now (slots .entry)) (now (places .entry))) i (valueOf v) (at h (now (slots .exit)) (now (places .exit)))) ⌝ }
 {
     let w = v.places;
     let n = shapes::known_places(v.known);
@@ -167,7 +167,7 @@ pub fn operand(slots: &[u64; 96], places: &[u32; 1536], height: usize, i: usize)
 // The slots from lo up to hi become v.
 fn fill(slots: &mut [u64; 96], places: &mut [u32; 1536], lo: usize, hi: usize, v: Value)
     requires { ⌜ Long (now slots) (now places) × (lo ≤ hi) × (hi ≤ 96) ⌝ }
-    ensures { λ r. ⌜ ((h : ℕ) → Filled (at h (now (slots .entry)) (now (places .entry))) lo hi (valueOf v) (at h (now (slots .exit)) (now (places .exit)))) ⌝ }
+    ensures { λ r. ⌜ Long (now (slots .exit)) (now (places .exit)) × ((h : ℕ) → Filled (at h (now (slots .entry)) (now (places .entry))) lo hi (valueOf v) (at h (now (slots .exit)) (now (places .exit)))) ⌝ }
 {
     let mut i = lo;
     while i < hi {
@@ -188,7 +188,7 @@ pub fn replace(
     more: usize,
 )
     requires { ⌜ Long (now slots) (now places) × (take ≤ height) × (height ≤ 64) × (height - take + times + more ≤ 64) ⌝ }
-    ensures { λ r. ⌜ ((locals : ℕ) → locals ≤ 32 → stateOf locals (at (height - take + times + more) (now (slots .exit)) (now (places .exit))) ≡ replaced take (valueOf v) times (valueOf above) more (stateOf locals (at height (now (slots .entry)) (now (places .entry))))) ⌝ }
+    ensures { λ r. ⌜ Long (now (slots .exit)) (now (places .exit)) × ((locals : ℕ) → locals ≤ 32 → stateOf locals (at (height - take + times + more) (now (slots .exit)) (now (places .exit))) ≡ replaced take (valueOf v) times (valueOf above) more (stateOf locals (at height (now (slots .entry)) (now (places .entry))))) ⌝ }
 {
     let a = height - take;
     let b = a + times;
@@ -201,7 +201,7 @@ pub fn replace(
 // A local past the last is not written.
 pub fn set_local(slots: &mut [u64; 96], places: &mut [u32; 1536], i: usize, v: Value, locals: usize)
     requires { ⌜ Long (now slots) (now places) × (locals ≤ 32) ⌝ }
-    ensures { λ r. ⌜ ((h : ℕ) → h ≤ 64 → stateOf locals (at h (now (slots .exit)) (now (places .exit))) ≡ withLocal i (valueOf v) (stateOf locals (at h (now (slots .entry)) (now (places .entry))))) ⌝ }
+    ensures { λ r. ⌜ Long (now (slots .exit)) (now (places .exit)) × ((h : ℕ) → h ≤ 64 → stateOf locals (at h (now (slots .exit)) (now (places .exit))) ≡ withLocal i (valueOf v) (stateOf locals (at h (now (slots .entry)) (now (places .entry))))) ⌝ }
 {
     if i < locals {
         write(slots, places, 64 + i, v);
@@ -219,7 +219,7 @@ fn copy_slot(
     i: usize,
 )
     requires { ⌜ Long (now slots) (now places) × Long (now others) (now held) × (i < 96) ⌝ }
-    ensures { λ r. ⌜ ((h : ℕ) → Written (at h (now (slots .entry)) (now (places .entry))) i (valueAt (now (others .entry)) (now (held .entry)) i) (at h (now (slots .exit)) (now (places .exit)))) ⌝ }
+    ensures { λ r. ⌜ Long (now (slots .exit)) (now (places .exit)) × ((h : ℕ) → Written (at h (now (slots .entry)) (now (places .entry))) i (valueAt (now (others .entry)) (now (held .entry)) i) (at h (now (slots .exit)) (now (places .exit)))) ⌝ }
 {
     let v = value_at(others, held, i);
     write(slots, places, i, v);
@@ -235,7 +235,7 @@ fn copy_slots(
     hi: usize,
 )
     requires { ⌜ Long (now slots) (now places) × Long (now others) (now held) × (lo ≤ hi) × (hi ≤ 96) ⌝ }
-    ensures { λ r. ⌜ Copied (at 0 (now (slots .entry)) (now (places .entry))) (at 0 (now (others .entry)) (now (held .entry))) lo hi (at 0 (now (slots .exit)) (now (places .exit))) ⌝ }
+    ensures { λ r. ⌜ Long (now (slots .exit)) (now (places .exit)) × (Copied (at 0 (now (slots .entry)) (now (places .entry))) (at 0 (now (others .entry)) (now (held .entry))) lo hi (at 0 (now (slots .exit)) (now (places .exit)))) ⌝ }
 {
     let mut i = lo;
     while i < hi {
@@ -254,7 +254,7 @@ pub fn copy(
     locals: usize,
 )
     requires { ⌜ Long (now slots) (now places) × Long (now others) (now held) × (height ≤ 64) × (locals ≤ 32) ⌝ }
-    ensures { λ r. ⌜ stateOf locals (at height (now (slots .exit)) (now (places .exit))) ≡ stateOf locals (at height (now (others .entry)) (now (held .entry))) ⌝ }
+    ensures { λ r. ⌜ Long (now (slots .exit)) (now (places .exit)) × (stateOf locals (at height (now (slots .exit)) (now (places .exit))) ≡ stateOf locals (at height (now (others .entry)) (now (held .entry)))) ⌝ }
 {
     copy_slots(slots, places, others, held, 0, height);
     copy_slots(slots, places, others, held, 64, 64 + locals);
@@ -293,7 +293,7 @@ fn join_slot(
     i: usize,
 )
     requires { ⌜ Long (now slots) (now places) × Long (now others) (now held) × (i < 96) ⌝ }
-    ensures { λ r. ⌜ ((h : ℕ) → Written (at h (now (slots .entry)) (now (places .entry))) i (join (valueAt (now (slots .entry)) (now (places .entry)) i) (valueAt (now (others .entry)) (now (held .entry)) i)) (at h (now (slots .exit)) (now (places .exit)))) ⌝ }
+    ensures { λ r. ⌜ Long (now (slots .exit)) (now (places .exit)) × ((h : ℕ) → Written (at h (now (slots .entry)) (now (places .entry))) i (join (valueAt (now (slots .entry)) (now (places .entry)) i) (valueAt (now (others .entry)) (now (held .entry)) i)) (at h (now (slots .exit)) (now (places .exit)))) ⌝ }
 {
     if covers_at(slots, places, others, held, i) {
         return;
@@ -314,7 +314,7 @@ fn join_slots(
     hi: usize,
 )
     requires { ⌜ Long (now slots) (now places) × Long (now others) (now held) × (lo ≤ hi) × (hi ≤ 96) ⌝ }
-    ensures { λ r. ⌜ ((h : ℕ) → Joined (at h (now (slots .entry)) (now (places .entry))) (at h (now (others .entry)) (now (held .entry))) lo hi (at h (now (slots .exit)) (now (places .exit)))) ⌝ }
+    ensures { λ r. ⌜ Long (now (slots .exit)) (now (places .exit)) × ((h : ℕ) → Joined (at h (now (slots .entry)) (now (places .entry))) (at h (now (others .entry)) (now (held .entry))) lo hi (at h (now (slots .exit)) (now (places .exit)))) ⌝ }
 {
     let mut i = lo;
     while i < hi {
@@ -333,7 +333,7 @@ pub fn join(
     locals: usize,
 )
     requires { ⌜ Long (now slots) (now places) × Long (now others) (now held) × (height ≤ 64) × (locals ≤ 32) ⌝ }
-    ensures { λ r. ⌜ stateOf locals (at height (now (slots .exit)) (now (places .exit))) ≡ join-states (stateOf locals (at height (now (slots .entry)) (now (places .entry)))) (stateOf locals (at height (now (others .entry)) (now (held .entry)))) ⌝ }
+    ensures { λ r. ⌜ Long (now (slots .exit)) (now (places .exit)) × (stateOf locals (at height (now (slots .exit)) (now (places .exit))) ≡ join-states (stateOf locals (at height (now (slots .entry)) (now (places .entry)))) (stateOf locals (at height (now (others .entry)) (now (held .entry))))) ⌝ }
 {
     join_slots(slots, places, others, held, 0, height);
     join_slots(slots, places, others, held, 64, 64 + locals);
@@ -348,7 +348,7 @@ pub fn join_locals(
     locals: usize,
 )
     requires { ⌜ Long (now slots) (now places) × Long (now others) (now held) × (locals ≤ 32) ⌝ }
-    ensures { λ r. ⌜ ((h : ℕ) → h ≤ 64 → stateOf locals (at h (now (slots .exit)) (now (places .exit))) ≡ widened (stateOf locals (at h (now (slots .entry)) (now (places .entry)))) (stateOf locals (at h (now (others .entry)) (now (held .entry))))) ⌝ }
+    ensures { λ r. ⌜ Long (now (slots .exit)) (now (places .exit)) × ((h : ℕ) → h ≤ 64 → stateOf locals (at h (now (slots .exit)) (now (places .exit))) ≡ widened (stateOf locals (at h (now (slots .entry)) (now (places .entry)))) (stateOf locals (at h (now (others .entry)) (now (held .entry))))) ⌝ }
 {
     join_slots(slots, places, others, held, 64, 64 + locals);
 }

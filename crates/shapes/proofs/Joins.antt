@@ -269,6 +269,13 @@ pub join-covers : (a b : AnyShape) → join a b ≡ a → covers a b ≡ true
 unfolding covers
 join-covers a b e = ap (λ (s : AnyShape). same-shape s a) e ∙ shape-refl a
 
+-- each covers itself
+pub covers-self : (a : AnyShape) → covers a a ≡ true
+unfolding covers join if-same join-text same-shape
+covers-self unknown = refl
+covers-self (scalar k) = rw (eq-eqb k k refl, eq-eqb k k refl)
+covers-self (composite k n t) = join-covers (composite k n t) (composite k n t) (rw (eq-eqb k k refl, eq-eqb n n refl, text-refl t))
+
 pub plain-unknown : (a b : Shape) → a ≡ Unknown → true ≡ covers (plainOf a) (plainOf b)
 unfolding covers join same-shape shapeOf
 plain-unknown a b e = rw e
