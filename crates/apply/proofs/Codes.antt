@@ -26,9 +26,9 @@ use Rattle.bytecode.specs.declared.Instr.{Instr}
 use Rattle.apply.specs.declared.Rule.{Rule}
 use Rattle.apply.specs.Answers.{Within}
 use Rattle.apply.specs.Rules.{Rules, is-generic}
-use Rattle.apply.specs.Changes.{Looks}
-use Rattle.shapes.specs.declared.State.{State}
-use Rattle.shapes.specs.Model.{stackOf}
+use Rattle.apply.specs.Rules.{Looks}
+use Rattle.frame.specs.declared.State.{State}
+use Rattle.frame.specs.Model.{stackOf}
 
 module _ (i : Instr) where
   abbrev at : ℕ → AnyInstr

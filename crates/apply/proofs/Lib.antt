@@ -5,4 +5,4 @@ pub mod Calls
 pub mod Steps
 pub mod Codes
 pub mod Numbers
-pub mod Changes
+pub mod Looks

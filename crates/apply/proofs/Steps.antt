@@ -15,14 +15,14 @@ use Rattle.definition.specs.Instructions.{Const, GetLocal, BoundsCheck, IsStruc
 use Rattle.definition.specs.Effects.{need, takes, pushes, shape-of, set-local, set-top, write, shaped-need}
 use Rattle.definition.specs.Tests.{reading, reading-test, is-blind, other-tests, fits-declared}
 use Rattle.definition.specs.Walk.{State as AnyState, height, after, floor-test, need-test, height-test, tests, examine}
-use Rattle.shapes.specs.Model.{valueOf, valueAt, stateOf, stackOf, replaced, withLocal}
-use Rattle.shapes.specs.declared.State.{State}
+use Rattle.shapes.specs.Model.{valueOf}
+use Rattle.frame.specs.Model.{valueAt, stateOf, stackOf, replaced, withLocal}
+use Rattle.frame.specs.declared.State.{State}
 use Rattle.shapes.specs.declared.Value.{Value}
 use Rattle.shapes.proofs.Lists.{down-length}
-use Rattle.shapes.proofs.Stores.{model}
+use Rattle.frame.proofs.Stores.{model}
 use Rattle.apply.specs.declared.Verdict.{Verdict}
 use Rattle.apply.specs.declared.Verdict.the-variants.{Passed, Limit, StackUnderflow, LocalTypeMismatch}
-use Rattle.apply.specs.declared.Step.{Step}
 use Rattle.apply.specs.declared.Rule.{Rule}
 use Rattle.apply.specs.Answers.{refusal, is-none, resultOf}
 use Rattle.apply.specs.Rules.{own-tests, Moves, Rules, Roomed, Stepped}
@@ -168,8 +168,9 @@ module _ (c : Chunk) (ip k : ℕ) (s : AnyState) (v d : AnyShape) (top : v ≡ g
 
 -- ── 5, and 12 before it ───────────────────────────────────────────────────────────────────
 
-pub stepped-as : (c : Chunk) (locals ip : ℕ) (i : Instr) (s : AnyState) (r : Step) (j : Instr) → j ≡ i → Stepped c locals ip i s r → Stepped c locals ip j s r
-stepped-as c locals ip i s r j e h = subst (λ (z : Instr). Stepped c locals ip z s r) (sym e) h
+pub stepped-as : (c : Chunk) (locals ip : ℕ) (i : Instr) (s : AnyState) (v : Verdict) (b : Bool) (u : State) (j : Instr) → j ≡ i → Stepped c locals ip i s v b u
+    → Stepped c locals ip j s v b u
+stepped-as c locals ip i s v b u j e h = subst (λ (z : Instr). Stepped c locals ip z s v b u) (sym e) h
 
 pub under : (ip h n : ℕ) → h < n → some (5 ∷ ip ∷ []) ≡ need-test ip h n
 unfolding need-test unless

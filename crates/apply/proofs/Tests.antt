@@ -34,7 +34,7 @@ use Rattle.shapes.specs.declared.Shape.the-variants.{Unknown, Scalar, Composite
 use Rattle.shapes.proofs.Shape as shape-type
 use Rattle.apply.specs.declared.Verdict.{Verdict}
 use Rattle.apply.specs.declared.Verdict.the-variants.{Passed, Limit, StackUnderflow, OffsetOutOfBounds, ExpectedComposite, NewCompositeSizeMismatch}
-use Rattle.apply.specs.declared.Verdict.the-variants.{TextFieldMismatch, BranchHeightMismatch, LoopNotNeutral, LoopFloorBreach, LocalTypeMismatch}
+use Rattle.apply.specs.declared.Verdict.the-variants.{TextFieldMismatch, LoopFloorBreach, LocalTypeMismatch}
 use Rattle.apply.specs.declared.Verdict.the-variants.{CallArgMismatch, ArrayStrideMismatch, EnumBodySizeMismatch}
 use Rattle.apply.proofs.Verdict.{the-type}
 use Rattle.apply.specs.declared.Read.{Read}
@@ -48,7 +48,7 @@ unfolding refusal
 passed-yes v e = rw e
 
 abbrev refusals : List ℕ
-refusals = 1 ∷ 2 ∷ 3 ∷ 4 ∷ 5 ∷ 6 ∷ 7 ∷ 8 ∷ 9 ∷ 10 ∷ 11 ∷ 12 ∷ 13 ∷ []
+refusals = 1 ∷ 2 ∷ 3 ∷ 4 ∷ 5 ∷ 6 ∷ 7 ∷ 8 ∷ 9 ∷ 10 ∷ 11 ∷ []
 
 pub passed-no : (v : Verdict) → OneOf refusals (tagOf the-type v) → false ≡ is-none (refusal v)
 unfolding refusal
@@ -59,8 +59,6 @@ passed-no (OffsetOutOfBounds a b d e) o = refl
 passed-no (ExpectedComposite a) o = refl
 passed-no (NewCompositeSizeMismatch a b d) o = refl
 passed-no (TextFieldMismatch a b) o = refl
-passed-no (BranchHeightMismatch a b d) o = refl
-passed-no (LoopNotNeutral a b d) o = refl
 passed-no (LoopFloorBreach a b d e) o = refl
 passed-no (LocalTypeMismatch a b) o = refl
 passed-no (CallArgMismatch a b d) o = refl

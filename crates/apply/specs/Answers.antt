@@ -13,13 +13,12 @@ use Rattle.value_layout.specs.Sizes.{Wide}
 use Rattle.bytecode.specs.Meaning.{chunkOf, localsAt, first-op, op-count, maxima-of}
 use Rattle.bytecode.specs.Parts.{instrOf}
 use Rattle.bytecode.specs.declared.Instr.{Instr}
-use Rattle.shapes.specs.declared.State.{State}
-use Rattle.shapes.specs.Model.{stateOf, stackOf}
+use Rattle.frame.specs.declared.State.{State}
+use Rattle.frame.specs.Model.{stateOf, stackOf}
 use Rattle.apply.specs.declared.Verdict.{Verdict}
 use Rattle.apply.specs.declared.Verdict.the-variants.{Passed, Limit, StackUnderflow, OffsetOutOfBounds, ExpectedComposite, NewCompositeSizeMismatch}
-use Rattle.apply.specs.declared.Verdict.the-variants.{TextFieldMismatch, BranchHeightMismatch, LoopNotNeutral, LoopFloorBreach, LocalTypeMismatch}
+use Rattle.apply.specs.declared.Verdict.the-variants.{TextFieldMismatch, LoopFloorBreach, LocalTypeMismatch}
 use Rattle.apply.specs.declared.Verdict.the-variants.{CallArgMismatch, ArrayStrideMismatch, EnumBodySizeMismatch}
-use Rattle.apply.specs.declared.Step.{Step}
 use Rattle.apply.specs.declared.Ctx.{Ctx}
 
 -- 01's number and values of each refusal; the chunk's number is not among them yet
@@ -31,8 +30,6 @@ refusal (OffsetOutOfBounds ip offset need size) = some (6 ∷ ip ∷ offset ∷ 
 refusal (ExpectedComposite ip) = some (7 ∷ ip ∷ [])
 refusal (NewCompositeSizeMismatch ip baked computed) = some (8 ∷ ip ∷ baked ∷ computed ∷ [])
 refusal (TextFieldMismatch ip offset) = some (9 ∷ ip ∷ offset ∷ [])
-refusal (BranchHeightMismatch ip then else) = some (10 ∷ ip ∷ then ∷ else ∷ [])
-refusal (LoopNotNeutral ip entry exit) = some (11 ∷ ip ∷ entry ∷ exit ∷ [])
 refusal (LoopFloorBreach ip floor available required) = some (12 ∷ ip ∷ floor ∷ available ∷ required ∷ [])
 refusal (LocalTypeMismatch ip slot) = some (13 ∷ ip ∷ slot ∷ [])
 refusal (CallArgMismatch ip callee arg) = some (14 ∷ ip ∷ callee ∷ arg ∷ [])
@@ -45,8 +42,8 @@ is-none none = true
 is-none (some r) = false
 
 -- the state after, or the refusal
-abbrev pub resultOf : ℕ → Step → Result AnyState
-resultOf locals r = pass (refusal (r .verdict)) (stateOf locals (r .state))
+abbrev pub resultOf : ℕ → Verdict → State → Result AnyState
+resultOf locals v u = pass (refusal v) (stateOf locals u)
 
 -- the numbers of chunk k of the tables
 pub record Of (t : List ℕ) (k : ℕ) (x : Ctx) : Type 0 where
@@ -67,8 +64,8 @@ pub record Within (i : Instr) : Type 0 where
   pub b-low : i .b ≤ getD (maxima-of (i .code)) 1 0
   pub c-low : i .c ≤ getD (maxima-of (i .code)) 2 0
 
--- The examination of an instruction of the chunk under check, and its mark, are the definition's. There are never more than 64 operands.
-pub record Examined (t : List ℕ) (x : Ctx) (i : Instr) (ip floor : ℕ) (s : State) (r : Step) : Type 0 where
-  pub result : resultOf (x .locals) r ≡ examine (chunkOf t (x .chunk)) ip floor (instrOf i) (stateOf (x .locals) s)
-  pub blind : r .blind ≡ is-blind (reading (chunkOf t (x .chunk)) (instrOf i)) (stackOf s)
-  pub low : r .state .height ≤ 64
+-- The examination of an instruction of the chunk under check, its mark and the state after it are the definition's. There are never more than 64 operands.
+pub record Examined (t : List ℕ) (x : Ctx) (i : Instr) (ip floor : ℕ) (s : State) (v : Verdict) (b : Bool) (u : State) : Type 0 where
+  pub result : resultOf (x .locals) v u ≡ examine (chunkOf t (x .chunk)) ip floor (instrOf i) (stateOf (x .locals) s)
+  pub blind : b ≡ is-blind (reading (chunkOf t (x .chunk)) (instrOf i)) (stackOf s)
+  pub low : u .height ≤ 64

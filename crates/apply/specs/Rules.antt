@@ -1,24 +1,26 @@
 -- The rule of one instruction: what the definition says of it after the tests of 12 and 5.
-use Prim.Native.Nat.{ℕ, _+_, _-_, _≤_}
+use Prim.Native.Nat.{ℕ, _+_, _-_, _≤_, _<_}
 use mathlib.Core.Path.{_≡_}
+use mathlib.Core.Logic.{_≢_, _⊎_}
 use mathlib.Core.Bool.{Bool, true, false}
 use mathlib.Core.Option.{Option, none, some}
 use mathlib.Core.List.{List, [], _∷_, _++_, map}
-use lib.ListN.{replicate}
+use lib.ListN.{replicate, getD}
 use Rattle.definition.specs.Basics.{Result, first, pass}
-use Rattle.definition.specs.Shapes.{Shape as AnyShape, scalar, composite}
+use Rattle.definition.specs.Shapes.{Shape as AnyShape, unknown, scalar, composite}
 use Rattle.definition.specs.Instructions.{Instr, Chunk, plain, shaped, jump, PopN, SetLocal, Call, NewFlat, NewBoxed, GetFlat, GetBoxed, GetIndex}
 use Rattle.definition.specs.Tests.{no-flat, reading, reading-test, other-tests, is-blind, places-test}
 use Rattle.definition.specs.Effects.{takes, pushes, shape-of, set-local}
 use Rattle.definition.specs.Walk.{State as AnyState, height, after, height-test}
-use Rattle.shapes.specs.Model.{stateOf, valueOf}
+use Rattle.shapes.specs.Model.{valueOf}
+use Rattle.frame.specs.Model.{stateOf, stackOf, localsOf}
+use Rattle.frame.specs.declared.State.{State}
 use Rattle.shapes.specs.declared.Value.{Value}
 use Rattle.shapes.specs.declared.Shape.{Shape}
 use Rattle.shapes.specs.declared.Shape.the-variants.{Unknown, Scalar, Composite}
 use Rattle.apply.specs.declared.Read.{Read}
 use Rattle.apply.specs.declared.Verdict.{Verdict}
 use Rattle.apply.specs.declared.Verdict.the-variants.{Passed}
-use Rattle.apply.specs.declared.Step.{Step}
 use Rattle.apply.specs.declared.Rule.{Rule}
 use Rattle.apply.specs.Answers.{refusal, resultOf}
 
@@ -83,8 +85,14 @@ pub record Roomed (r : Rule) (h ip : ℕ) (q : Verdict) : Type 0 where
   pub tests : refusal q ≡ first (refusal (r .verdict)) (height-test ip (r .ints + (r .times + (h - r .take))))
   pub room : refusal q ≡ none → (refusal (r .verdict) ≡ none) × (h - r .take + r .times + r .ints ≤ 64)
 
--- The step of an instruction after the tests of 12 and 5 is the definition's, and so is its mark.
-pub record Stepped (c : Chunk) (locals ip : ℕ) (i : Instr) (s : AnyState) (r : Step) : Type 0 where
-  pub result : resultOf locals r ≡ pass (first (own-tests c ip i (s .stack)) (height-test ip (height (after c i s)))) (after c i s)
-  pub blind : r .blind ≡ is-blind (reading c i) (s .stack)
-  pub low : r .state .height ≤ 64
+-- The step of an instruction after the tests of 12 and 5, its mark and the state after it are the definition's.
+pub record Stepped (c : Chunk) (locals ip : ℕ) (i : Instr) (s : AnyState) (v : Verdict) (b : Bool) (u : State) : Type 0 where
+  pub result : resultOf locals v u ≡ pass (first (own-tests c ip i (s .stack)) (height-test ip (height (after c i s)))) (after c i s)
+  pub blind : b ≡ is-blind (reading c i) (s .stack)
+  pub low : u .height ≤ 64
+
+-- v is what the instruction of a code with first operand a looks at in s: a local, the operand under the top one, or the top one
+pub record Looks (code a locals : ℕ) (s : State) (v : AnyShape) : Type 0 where
+  pub at-local : code ≡ 1 → a < locals → v ≡ getD (localsOf locals s) a unknown
+  pub under : (code ≡ 10) ⊎ (code ≡ 11) → 2 ≤ s .height → v ≡ getD (stackOf s) 1 unknown
+  pub top : code ≢ 1 → code ≢ 10 → code ≢ 11 → 1 ≤ s .height → v ≡ getD (stackOf s) 0 unknown

@@ -8,7 +8,6 @@ use shapes::Count;
 use shapes::Packed;
 use shapes::Places;
 use shapes::Shape;
-use shapes::State;
 use shapes::Value;
 use value_layout::Widths;
 ghost use mathlib.Core.Path.{_≡_};
@@ -30,10 +29,11 @@ ghost use Rattle.value_layout.specs.Sizes.{Wide};
 ghost use Rattle.bytecode.specs.Meaning.{chunkOf, sigsOf, nativesOf, enum-sizesOf};
 ghost use Rattle.bytecode.specs.Parts.{declared-shape, constant-of, instrOf, Effect-is};
 ghost use Rattle.shapes.specs.Text.{Means};
-ghost use Rattle.shapes.specs.Model.{valueOf, valueAt, plainOf, stateOf, stackOf, localsOf, placesOf, shapeOf};
+ghost use Rattle.shapes.specs.Model.{valueOf, plainOf, placesOf, shapeOf};
+ghost use Rattle.frame.specs.Model.{valueAt, at, stateOf, stackOf, localsOf, Long};
+ghost use Rattle.frame.specs.declared.State.{State};
 ghost use Rattle.apply.specs.Answers.{refusal, is-none, resultOf, Of, Within, Examined};
-ghost use Rattle.apply.specs.Changes.{Looks, unchangedOf, changedOf, Adds, Moved, Changes};
-ghost use Rattle.apply.specs.Rules.{Otherwise, Rules, Roomed, Body, Stepped, passingOf, refusingOf, is-generic};
+ghost use Rattle.apply.specs.Rules.{Looks, Otherwise, Rules, Roomed, Body, Stepped, passingOf, refusingOf, is-generic};
 
 // What an examination says: passed, or a refusal of the walk with the Rust's fields.
 pub enum Verdict {
@@ -44,8 +44,6 @@ pub enum Verdict {
     ExpectedComposite(usize),
     NewCompositeSizeMismatch(usize, u64, u64),
     TextFieldMismatch(usize, u64),
-    BranchHeightMismatch(usize, usize, usize),
-    LoopNotNeutral(usize, usize, usize),
     LoopFloorBreach(usize, usize, usize, usize),
     LocalTypeMismatch(usize, u64),
     CallArgMismatch(usize, u64, usize),
@@ -532,11 +530,18 @@ fn check_enum_size(t: &[u64], size: u32, ip: usize) -> Verdict
 }
 
 // The baked size against the bytes of the n operands, where they are known.
-fn check_packed_size(s: State, n: usize, size: u32, w: Widths, ip: usize) -> Verdict
-    requires { ⌜ (n ≤ s .height) × (s .height ≤ 64) ⌝ }
-    ensures { λ r. ⌜ ((c : Chunk) → Wide w c → refusal r ≡ size-test ip size (packed c (take n (stackOf s)))) ⌝ }
+fn check_packed_size(
+    slots: &[u64; 96],
+    height: usize,
+    n: usize,
+    size: u32,
+    w: Widths,
+    ip: usize,
+) -> Verdict
+    requires { ⌜ (length (now slots) ≡ 96) × (n ≤ height) × (height ≤ 64) ⌝ }
+    ensures { λ r. ⌜ ((c : Chunk) (places : List ℕ) → Wide w c → refusal r ≡ size-test ip size (packed c (take n (stackOf (at height (now (slots .entry)) places))))) ⌝ }
 {
-    let p = s.packed_size(n, w);
+    let p = frame::packed_size(slots, height, n, w);
     let Packed::Bytes(b) = p else {
         return Verdict::Passed;
     };
@@ -569,9 +574,19 @@ fn new_body(b: Built, kind: u8, n: usize, size: u32, ip: usize) -> Rule
 }
 
 // NewComposite Flat over the n top operands.
-fn new_flat(t: &[u64], s: State, kind: u8, n: usize, size: u32, w: Widths, ip: usize) -> Rule
-    requires { ⌜ (n ≤ s .height) × (s .height ≤ 64) ⌝ }
-    ensures { λ r. ⌜ ((c : Chunk) (locals : ℕ) → Wide w c → c .enum-sizes ≡ enum-sizesOf (now (t .entry)) → Rules c ip (NewFlat kind n size) (stateOf locals s) r) ⌝ }
+fn new_flat(
+    t: &[u64],
+    slots: &[u64; 96],
+    places: &[u32; 1536],
+    height: usize,
+    kind: u8,
+    n: usize,
+    size: u32,
+    w: Widths,
+    ip: usize,
+) -> Rule
+    requires { ⌜ Long (now slots) (now places) × (n ≤ height) × (height ≤ 64) ⌝ }
+    ensures { λ r. ⌜ ((c : Chunk) (locals : ℕ) → Wide w c → c .enum-sizes ≡ enum-sizesOf (now (t .entry)) → Rules c ip (NewFlat kind n size) (stateOf locals (at height (now (slots .entry)) (now (places .entry)))) r) ⌝ }
 {
     if kind == 3 {
         let verdict = check_enum_size(t, size, ip);
@@ -589,9 +604,9 @@ fn new_flat(t: &[u64], s: State, kind: u8, n: usize, size: u32, w: Widths, ip: u
             ints: 0,
         };
     }
-    let sized = check_packed_size(s, n, size, w, ip);
+    let sized = check_packed_size(slots, height, n, size, w, ip);
     if sized.passed() {
-        let b = s.built_text_layout(n, w);
+        let b = frame::built_text_layout(slots, places, height, n, w);
         return new_body(b, kind, n, size, ip);
     }
     let v = shapes::unknown_value();
@@ -626,15 +641,23 @@ fn least(a: usize, b: usize) -> usize
 }
 
 // The first of the n top operands, in the order of the parameters, that does not fit its own.
-fn check_args(t: &[u64], s: State, callee: u32, n: usize, ip: usize) -> Verdict
-    requires { ⌜ (n ≤ s .height) × (s .height ≤ 64) ⌝ }
-    ensures { λ r. ⌜ refusal r ≡ args-test ip callee 0 (reverse (take n (stackOf s))) (getD (sigsOf (now (t .entry))) callee no-sig .params) ⌝ }
+fn check_args(
+    t: &[u64],
+    slots: &[u64; 96],
+    places: &[u32; 1536],
+    height: usize,
+    callee: u32,
+    n: usize,
+    ip: usize,
+) -> Verdict
+    requires { ⌜ Long (now slots) (now places) × (n ≤ height) × (height ≤ 64) ⌝ }
+    ensures { λ r. ⌜ refusal r ≡ args-test ip callee 0 (reverse (take n (stackOf (at height (now (slots .entry)) (now (places .entry)))))) (getD (sigsOf (now (t .entry))) callee no-sig .params) ⌝ }
 {
     let k = index(callee);
     let m = least(n, bytecode::sig_params(t, k));
     let mut arg = 0;
     while arg < m {
-        let v = s.operand(n - 1 - arg);
+        let v = frame::operand(slots, places, height, n - 1 - arg);
         let shape = v.shape;
         let declared = from_wire(bytecode::sig_param(t, k, arg));
         if shapes_compatible(shape, declared) {
@@ -646,11 +669,19 @@ fn check_args(t: &[u64], s: State, callee: u32, n: usize, ip: usize) -> Verdict
     Verdict::Passed
 }
 
-fn call(t: &[u64], s: State, callee: u32, n: usize, ip: usize) -> Rule
-    requires { ⌜ (n ≤ s .height) × (s .height ≤ 64) ⌝ }
-    ensures { λ r. ⌜ ((c : Chunk) (locals : ℕ) → c .sigs ≡ sigsOf (now (t .entry)) → Rules c ip (Call callee n) (stateOf locals s) r) ⌝ }
+fn call(
+    t: &[u64],
+    slots: &[u64; 96],
+    places: &[u32; 1536],
+    height: usize,
+    callee: u32,
+    n: usize,
+    ip: usize,
+) -> Rule
+    requires { ⌜ Long (now slots) (now places) × (n ≤ height) × (height ≤ 64) ⌝ }
+    ensures { λ r. ⌜ ((c : Chunk) (locals : ℕ) → c .sigs ≡ sigsOf (now (t .entry)) → Rules c ip (Call callee n) (stateOf locals (at height (now (slots .entry)) (now (places .entry)))) r) ⌝ }
 {
-    let verdict = check_args(t, s, callee, n, ip);
+    let verdict = check_args(t, slots, places, height, callee, n, ip);
     let x = wire_value(bytecode::sig_return(t, index(callee)));
     Rule {
         verdict: verdict,
@@ -664,35 +695,42 @@ fn call(t: &[u64], s: State, callee: u32, n: usize, ip: usize) -> Rule
 
 // ---- the state after
 
-// blind: whether a flat access met an unknown operand. The state counts only where the verdict is Passed.
+// blind: whether a flat access met an unknown operand. The height after, and with it the state, counts only where the verdict is Passed.
 pub struct Step {
     pub verdict: Verdict,
     pub blind: bool,
-    pub state: State,
+    pub height: usize,
 }
 
 // SetLocal is tested against the parameter of its number, and writes no local outside the frame.
-fn set_local(t: &[u64], x: Ctx, s: State, k: u32, ip: usize) -> Step
+fn set_local(
+    t: &[u64],
+    slots: &mut [u64; 96],
+    places: &mut [u32; 1536],
+    x: Ctx,
+    height: usize,
+    k: u32,
+    ip: usize,
+) -> Step
     requires { ⌜ Of (now t) (x .chunk) x ⌝ }
-    requires { ⌜ (1 ≤ s .height) × (s .height ≤ 64) ⌝ }
-    ensures { λ r. ⌜ Stepped (chunkOf (now (t .entry)) (x .chunk)) (x .locals) ip (SetLocal k) (stateOf (x .locals) s) r ⌝ }
+    requires { ⌜ Long (now slots) (now places) × (1 ≤ height) × (height ≤ 64) ⌝ }
+    ensures { λ r. ⌜ Long (now (slots .exit)) (now (places .exit)) × Stepped (chunkOf (now (t .entry)) (x .chunk)) (x .locals) ip (SetLocal k) (stateOf (x .locals) (at height (now (slots .entry)) (now (places .entry)))) (r .verdict) (r .blind) (at (r .height) (now (slots .exit)) (now (places .exit))) ⌝ }
 {
-    let v = s.operand(0);
+    let v = frame::operand(slots, places, height, 0);
     let shape = v.shape;
     let declared = from_wire(bytecode::sig_param(t, x.chunk, index(k)));
     if shapes_compatible(shape, declared) {
-        let p = s.pop(1);
-        let q = p.set_local(index(k), v, x.locals);
+        frame::set_local(slots, places, index(k), v, x.locals);
         return Step {
             verdict: Verdict::Passed,
             blind: false,
-            state: q,
+            height: height - 1,
         };
     }
     Step {
         verdict: Verdict::LocalTypeMismatch(ip, wide(k)),
         blind: false,
-        state: s,
+        height: height,
     }
 }
 
@@ -723,7 +761,7 @@ fn check_room(r: Rule, height: usize, ip: usize) -> Verdict
 // ---- one instruction
 
 // The slot that an instruction looks at, if it looks at one: a local, the operand under the top one, or the top one. Where there is none it is slot 0.
-pub fn looks_at(code: u8, a: u32, height: usize, locals: usize) -> usize
+fn looks_at(code: u8, a: u32, height: usize, locals: usize) -> usize
     requires { ⌜ (height ≤ 64) × (locals ≤ 32) ⌝ }
     ensures { λ r. ⌜ (r < 96) × ((s : State) → s .height ≡ height → Looks code a locals s (valueAt (s .slots) (s .places) r)) ⌝ }
 {
@@ -801,19 +839,28 @@ fn rule_by(t: &[u64], x: Ctx, i: Instr, e: Effect, v: Value, ip: usize) -> Rule
 }
 
 // The rule of every name but SetLocal.
-fn rule_of(t: &[u64], x: Ctx, i: Instr, e: Effect, s: State, ip: usize) -> Rule
+fn rule_of(
+    t: &[u64],
+    slots: &[u64; 96],
+    places: &[u32; 1536],
+    x: Ctx,
+    i: Instr,
+    e: Effect,
+    height: usize,
+    ip: usize,
+) -> Rule
     requires { ⌜ Of (now t) (x .chunk) x ⌝ }
-    requires { ⌜ Within i × (i .code ≡ 5 → ⊥) × Effect-is i (x .«index_trap») (x .«host_trap») e × (e .need ≤ s .height) × (s .height ≤ 64) ⌝ }
-    ensures { λ r. ⌜ Rules (chunkOf (now (t .entry)) (x .chunk)) ip (instrOf i) (stateOf (x .locals) s) r ⌝ }
+    requires { ⌜ Long (now slots) (now places) × Within i × (i .code ≡ 5 → ⊥) × Effect-is i (x .«index_trap») (x .«host_trap») e × (e .need ≤ height) × (height ≤ 64) ⌝ }
+    ensures { λ r. ⌜ Rules (chunkOf (now (t .entry)) (x .chunk)) ip (instrOf i) (stateOf (x .locals) (at height (now (slots .entry)) (now (places .entry)))) r ⌝ }
 {
     if i.code == 49 {
-        return call(t, s, i.a, index(i.b), ip);
+        return call(t, slots, places, height, i.a, index(i.b), ip);
     }
     if i.code == 52 {
-        return new_flat(t, s, i.a as u8, index(i.b), i.c, x.widths, ip);
+        return new_flat(t, slots, places, height, i.a as u8, index(i.b), i.c, x.widths, ip);
     }
-    let k = looks_at(i.code, i.a, s.height, x.locals);
-    let v = s.read(k);
+    let k = looks_at(i.code, i.a, height, x.locals);
+    let v = frame::value_at(slots, places, k);
     rule_by(t, x, i, e, v, ip)
 }
 
@@ -828,16 +875,16 @@ fn is_unknown(v: Value) -> bool
 }
 
 // Whether an instruction is a flat access of an unknown operand, one that is missing included.
-fn met_unknown(i: Instr, s: State) -> bool
-    requires { ⌜ Within i × (s .height ≤ 64) ⌝ }
-    ensures { λ r. ⌜ ((c : Chunk) → r ≡ is-blind (reading c (instrOf i)) (stackOf s)) ⌝ }
+fn met_unknown(slots: &[u64; 96], places: &[u32; 1536], i: Instr, height: usize) -> bool
+    requires { ⌜ Long (now slots) (now places) × Within i × (height ≤ 64) ⌝ }
+    ensures { λ r. ⌜ ((c : Chunk) → r ≡ is-blind (reading c (instrOf i)) (stackOf (at height (now (slots .entry)) (now (places .entry))))) ⌝ }
 {
     let code = i.code;
     match code {
-        10 => is_unknown(s.operand(1)),
-        11 => is_unknown(s.operand(1)),
-        36 | 39 | 42 => is_unknown(s.operand(0)),
-        37 | 40 | 43 => is_unknown(s.operand(0)),
+        10 => is_unknown(frame::operand(slots, places, height, 1)),
+        11 => is_unknown(frame::operand(slots, places, height, 1)),
+        36 | 39 | 42 => is_unknown(frame::operand(slots, places, height, 0)),
+        37 | 40 | 43 => is_unknown(frame::operand(slots, places, height, 0)),
         _ => false,
     }
 }
@@ -872,215 +919,68 @@ pub fn check_need(height: usize, need: usize, floor: usize, ip: usize) -> Verdic
 }
 
 // The instruction's own tests, and its effect.
-fn apply_op(t: &[u64], x: Ctx, i: Instr, e: Effect, s: State, ip: usize) -> Step
+fn apply_op(
+    t: &[u64],
+    slots: &mut [u64; 96],
+    places: &mut [u32; 1536],
+    x: Ctx,
+    i: Instr,
+    e: Effect,
+    height: usize,
+    ip: usize,
+) -> Step
     requires { ⌜ Of (now t) (x .chunk) x ⌝ }
-    requires { ⌜ Within i × Effect-is i (x .«index_trap») (x .«host_trap») e × (e .need ≤ s .height) × (s .height ≤ 64) ⌝ }
-    ensures { λ r. ⌜ Stepped (chunkOf (now (t .entry)) (x .chunk)) (x .locals) ip (instrOf i) (stateOf (x .locals) s) r ⌝ }
+    requires { ⌜ Long (now slots) (now places) × Within i × Effect-is i (x .«index_trap») (x .«host_trap») e × (e .need ≤ height) × (height ≤ 64) ⌝ }
+    ensures { λ r. ⌜ Long (now (slots .exit)) (now (places .exit)) × Stepped (chunkOf (now (t .entry)) (x .chunk)) (x .locals) ip (instrOf i) (stateOf (x .locals) (at height (now (slots .entry)) (now (places .entry)))) (r .verdict) (r .blind) (at (r .height) (now (slots .exit)) (now (places .exit))) ⌝ }
 {
     if i.code == 5 {
-        return set_local(t, x, s, i.a, ip);
+        return set_local(t, slots, places, x, height, i.a, ip);
     }
-    let r = rule_of(t, x, i, e, s, ip);
-    let verdict = check_room(r, s.height, ip);
+    let r = rule_of(t, slots, places, x, i, e, height, ip);
+    let verdict = check_room(r, height, ip);
     if verdict.passed() {} else {
         return Step {
             verdict: verdict,
             blind: r.blind,
-            state: s,
+            height: height,
         };
     }
     let v = r.value;
-    let times = count(r.times);
-    let ints = count(r.ints);
-    let int = shapes::scalar_value(3);
-    let after = s.replace(r.take, v, times, int, ints);
-    Step {
-        verdict: Verdict::Passed,
-        blind: r.blind,
-        state: after,
-    }
-}
-
-pub fn examine(t: &[u64], x: Ctx, i: Instr, ip: usize, floor: usize, s: State) -> Step
-    requires { ⌜ Of (now t) (x .chunk) x × Within i × (floor ≤ 64) × (s .height ≤ 64) ⌝ }
-    ensures { λ r. ⌜ Examined (now (t .entry)) x i ip floor s r ⌝ }
-{
-    let e = bytecode::op_depth_effect(i, x.index_trap, x.host_trap);
-    let verdict = check_need(s.height, index(e.need), floor, ip);
-    if verdict.passed() {
-        return apply_op(t, x, i, e, s, ip);
-    }
-    Step {
-        verdict: verdict,
-        blind: met_unknown(i, s),
-        state: s,
-    }
-}
-
-// ---- one instruction in place
-
-// What an examination changes: slot `at` becomes the value, the `more` slots above it become `extra`, and the height is set. Where `whole` is true it says
-// nothing, and the instruction is to be examined with the whole state.
-pub struct Change {
-    pub whole: bool,
-    pub verdict: Verdict,
-    pub blind: bool,
-    pub at: usize,
-    pub value: Value,
-    pub more: usize,
-    pub extra: Shape,
-    pub height: usize,
-}
-
-// No change: the instruction is refused, or needs the whole state.
-fn unchanged(whole: bool, verdict: Verdict, blind: bool, v: Value, height: usize) -> Change
-    ensures { λ r. ⌜ r ≡ unchangedOf whole verdict blind v height ⌝ }
-{
-    Change {
-        whole: whole,
-        verdict: verdict,
-        blind: blind,
-        at: 0,
-        value: v,
-        more: 0,
-        extra: Shape::Unknown,
-        height: height,
-    }
-}
-
-fn changed(blind: bool, at: usize, v: Value, more: usize, extra: Shape, height: usize) -> Change
-    ensures { λ r. ⌜ r ≡ changedOf blind at v more extra height ⌝ }
-{
-    Change {
-        whole: false,
-        verdict: Verdict::Passed,
-        blind: blind,
-        at: at,
-        value: v,
-        more: more,
-        extra: extra,
-        height: height,
-    }
-}
-
-// Nothing is pushed but numbers of kind 3. Where nothing at all is pushed, the slot that is written lies above the operands.
-fn push_ints(blind: bool, take: usize, v: Value, ints: usize, height: usize) -> Change
-    requires { ⌜ (take ≤ height) × (height ≤ 64) × (height - take + ints ≤ 64) ⌝ }
-    ensures { λ q. ⌜ Adds blind take (valueOf v) 0 ints height q ⌝ }
-{
-    let at = height - take;
-    if 0 < ints {
-        let int = shapes::scalar_value(3);
-        return changed(blind, at, int, ints - 1, Shape::Scalar(3), at + ints);
-    }
-    if at < 64 {
-        return changed(blind, at, v, 0, Shape::Unknown, at);
-    }
-    unchanged(true, Verdict::Passed, blind, v, height)
-}
-
-// A value is pushed more than once, which is done in place only for unknowns.
-fn push_unknowns(
-    blind: bool,
-    take: usize,
-    v: Value,
-    times: usize,
-    ints: usize,
-    height: usize,
-) -> Change
-    requires { ⌜ (take ≤ height) × (height ≤ 64) × (height - take + times + ints ≤ 64) × (1 ≤ times) ⌝ }
-    ensures { λ q. ⌜ Adds blind take (valueOf v) times ints height q ⌝ }
-{
-    let shape = v.shape;
-    let Shape::Unknown = shape else {
-        return unchanged(true, Verdict::Passed, blind, v, height);
-    };
-    if ints == 0 {
-        let at = height - take;
-        return changed(blind, at, v, times - 1, Shape::Unknown, at + times);
-    }
-    unchanged(true, Verdict::Passed, blind, v, height)
-}
-
-// The change of a rule on so many operands.
-fn change_by(r: Rule, height: usize, ip: usize) -> Change
-    requires { ⌜ (refusal (r .verdict) ≡ none → r .take ≤ height) × (height ≤ 64) ⌝ }
-    ensures { λ q. ⌜ ((c : Chunk) (locals : ℕ) (i : AnyInstr) → locals ≤ 32 → Moved c locals ip i height (λ s. Rules c ip i (stateOf locals s) r) q) ⌝ }
-{
-    let verdict = check_room(r, height, ip);
-    let v = r.value;
-    if verdict.passed() {} else {
-        return unchanged(false, verdict, r.blind, v, height);
-    }
     let take = r.take;
     let times = count(r.times);
     let ints = count(r.ints);
-    if times == 0 {
-        return push_ints(r.blind, take, v, ints, height);
+    let int = shapes::scalar_value(3);
+    let after = frame::replace(slots, places, height, take, v, times, int, ints);
+    Step {
+        verdict: Verdict::Passed,
+        blind: r.blind,
+        height: after,
     }
-    if times == 1 {
-        let at = height - take;
-        return changed(r.blind, at, v, ints, Shape::Scalar(3), at + 1 + ints);
-    }
-    push_unknowns(r.blind, take, v, times, ints, height)
 }
 
-// SetLocal of the top operand v. A local outside the frame is not written: the slot that is written then lies above the operands.
-fn change_local(t: &[u64], x: Ctx, k: u32, v: Value, height: usize, ip: usize) -> Change
-    requires { ⌜ Of (now t) (x .chunk) x ⌝ }
-    requires { ⌜ (1 ≤ height) × (height ≤ 64) ⌝ }
-    ensures { λ q. ⌜ Moved (chunkOf (now (t .entry)) (x .chunk)) (x .locals) ip (SetLocal k) height (λ s. valueOf v ≡ getD (stackOf s) 0 unknown) q ⌝ }
-{
-    let shape = v.shape;
-    let i = index(k);
-    let declared = from_wire(bytecode::sig_param(t, x.chunk, i));
-    if shapes_compatible(shape, declared) {} else {
-        return unchanged(
-            false,
-            Verdict::LocalTypeMismatch(ip, wide(k)),
-            false,
-            v,
-            height,
-        );
-    }
-    if i < x.locals {
-        return changed(false, 64 + i, v, 0, Shape::Unknown, height - 1);
-    }
-    changed(false, height - 1, v, 0, Shape::Unknown, height - 1)
-}
-
-// The change by one instruction on so many operands, where v is the value that it looks at.
-pub fn change_of(
+// The examination of one instruction on a state of so many operands, which becomes the one after it.
+pub fn examine(
     t: &[u64],
+    slots: &mut [u64; 96],
+    places: &mut [u32; 1536],
     x: Ctx,
     i: Instr,
     ip: usize,
     floor: usize,
     height: usize,
-    v: Value,
-) -> Change
-    requires { ⌜ Of (now t) (x .chunk) x × Within i × (floor ≤ 64) × (height ≤ 64) ⌝ }
-    ensures { λ q. ⌜ Changes (now (t .entry)) x i ip floor height (valueOf v) q ⌝ }
+) -> Step
+    requires { ⌜ Of (now t) (x .chunk) x ⌝ }
+    requires { ⌜ Long (now slots) (now places) × Within i × (floor ≤ 64) × (height ≤ 64) ⌝ }
+    ensures { λ r. ⌜ Long (now (slots .exit)) (now (places .exit)) × Examined (now (t .entry)) x i ip floor (at height (now (slots .entry)) (now (places .entry))) (r .verdict) (r .blind) (at (r .height) (now (slots .exit)) (now (places .exit))) ⌝ }
 {
     let e = bytecode::op_depth_effect(i, x.index_trap, x.host_trap);
     let verdict = check_need(height, index(e.need), floor, ip);
-    if verdict.passed() {} else {
-        return unchanged(true, verdict, false, v, height);
+    if verdict.passed() {
+        return apply_op(t, slots, places, x, i, e, height, ip);
     }
-    if i.code == 5 {
-        return change_local(t, x, i.a, v, height, ip);
+    Step {
+        verdict: verdict,
+        blind: met_unknown(slots, places, i, height),
+        height: height,
     }
-    if i.code == 49 {
-        return unchanged(true, verdict, false, v, height);
-    }
-    if i.code == 52 {
-        return unchanged(true, verdict, false, v, height);
-    }
-    let r = rule_by(t, x, i, e, v, ip);
-    let take = r.take;
-    // This is never so, since a rule takes what is needed at most; but that is known of a rule on a state, and here there is none.
-    if height < take {
-        return unchanged(true, verdict, false, v, height);
-    }
-    change_by(r, height, ip)
 }

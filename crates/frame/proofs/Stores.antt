@@ -152,6 +152,10 @@ module _ (slots : List ℕ) (ps : List ℕ) (i w : ℕ) (x : Slot) (v : List ℕ
 pub model : {a b c d : List AnyShape} → a ≡ b → c ≡ d → _≡_ {A = AnyState} (record { stack = a; locals = c }) (record { stack = b; locals = d })
 model p q = λ i. record { stack = p i; locals = q i }
 
+pub pop-law : (s : State) (n locals : ℕ) → n ≤ s .height
+    → stateOf locals (record { height = s .height - n; slots = s .slots; places = s .places }) ≡ record { stack = drop n (stackOf s); locals = localsOf locals s }
+pop-law s n locals h = model (down-drop (valueAt (s .slots) (s .places)) n (s .height) h) refl
+
 pub fill-start : (s : State) (lo : ℕ) (v : AnyShape) → Filled s lo lo v s
 fill-start s lo v = record { height = refl; here = λ j l u. absurd (omega arith); there = λ j n. refl }
 

@@ -176,7 +176,7 @@ fn fill(slots: &mut [u64; 96], places: &mut [u32; 1536], lo: usize, hi: usize, v
     }
 }
 
-// Takes operands, then pushes v so many times and above it so many of another.
+// Takes operands, then pushes v so many times and above it so many of another; gives the height after.
 pub fn replace(
     slots: &mut [u64; 96],
     places: &mut [u32; 1536],
@@ -186,14 +186,15 @@ pub fn replace(
     times: usize,
     above: Value,
     more: usize,
-)
+) -> usize
     requires { ⌜ Long (now slots) (now places) × (take ≤ height) × (height ≤ 64) × (height - take + times + more ≤ 64) ⌝ }
-    ensures { λ r. ⌜ Long (now (slots .exit)) (now (places .exit)) × ((locals : ℕ) → locals ≤ 32 → stateOf locals (at (height - take + times + more) (now (slots .exit)) (now (places .exit))) ≡ replaced take (valueOf v) times (valueOf above) more (stateOf locals (at height (now (slots .entry)) (now (places .entry))))) ⌝ }
+    ensures { λ r. ⌜ Long (now (slots .exit)) (now (places .exit)) × (r ≡ height - take + times + more) × ((locals : ℕ) → locals ≤ 32 → stateOf locals (at r (now (slots .exit)) (now (places .exit))) ≡ replaced take (valueOf v) times (valueOf above) more (stateOf locals (at height (now (slots .entry)) (now (places .entry))))) ⌝ }
 {
     let a = height - take;
     let b = a + times;
     fill(slots, places, a, b, v);
     fill(slots, places, b, b + more, above);
+    b + more
 }
 
 // ---- locals

@@ -20,14 +20,16 @@ use Rattle.definition.specs.Walk.{State as AnyState, Sheets, height, examine, m
 use Rattle.bytecode.specs.Meaning.{chunkOf, opAt, instrAt}
 use Rattle.bytecode.specs.Parts.{instrOf, Instr-is}
 use Rattle.bytecode.specs.declared.Instr.{Instr}
-use Rattle.shapes.specs.declared.State.{State}
+use Rattle.frame.specs.declared.State.{State}
 use Rattle.shapes.specs.declared.Slot.{Slot}
 use Rattle.shapes.specs.declared.Shape.{Shape}
 use Rattle.shapes.specs.declared.Value.{Value}
-use Rattle.shapes.specs.Model.{stateOf, stackOf, valueOf, valueIn, valueAt, plainOf, placesOf, shapeOf, countOf, blank}
+use Rattle.shapes.specs.Model.{valueOf, plainOf, placesOf, shapeOf, countOf, blank}
+use Rattle.frame.specs.Model.{stateOf, stackOf, valueIn, valueAt}
 use Rattle.shapes.specs.Slots.{Written, Filled, Spread, Laid}
 use Rattle.shapes.proofs.Lists.{lt-or-ge, down-length}
-use Rattle.shapes.proofs.Stores.{stored-here, stored-there, fill-start, places-unknown}
+use Rattle.shapes.proofs.Counts.{places-unknown}
+use Rattle.frame.proofs.Stores.{stored-here, stored-there, fill-start}
 use Rattle.apply.specs.declared.Ctx.{Ctx}
 use Rattle.apply.specs.declared.Step.{Step}
 use Rattle.apply.specs.declared.Verdict.{Verdict}

@@ -11,8 +11,8 @@ use Rattle.definition.specs.Walk.{State as AnyState, Sheets, height, examine, m
 use Rattle.bytecode.specs.Meaning.{chunkOf, opAt, instrAt}
 use Rattle.bytecode.specs.Parts.{Instr-is}
 use Rattle.bytecode.specs.declared.Instr.{Instr}
-use Rattle.shapes.specs.declared.State.{State}
-use Rattle.shapes.specs.Model.{stateOf}
+use Rattle.frame.specs.declared.State.{State}
+use Rattle.frame.specs.Model.{stateOf}
 use Rattle.apply.specs.declared.Ctx.{Ctx}
 use Rattle.apply.specs.declared.Step.{Step}
 use Rattle.apply.specs.Answers.{refusal, is-none, Examined}

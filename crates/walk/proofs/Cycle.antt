@@ -20,8 +20,8 @@ use Rattle.theorems.specs.Place.{rule-at, else-is}
 use Rattle.theorems.specs.Clear.{in-arm}
 use Rattle.theorems.specs.Facts.{is-quiet}
 use Rattle.theorems.specs.Fuel.{full, full-visit, full-end}
-use Rattle.shapes.specs.declared.State.{State}
-use Rattle.shapes.specs.Model.{stateOf, stackOf, localsOf}
+use Rattle.frame.specs.declared.State.{State}
+use Rattle.frame.specs.Model.{stateOf, stackOf, localsOf}
 use Rattle.bytecode.specs.Meaning.{chunkOf, first-op, op-count, localsAt, instrAt, code-length, chunk-locals}
 use Rattle.walk.specs.Outcomes.{numbers, pendingOf, breaksOf, flowOf, walkedOf, onwardOf, restOf, leavingOf, leftOf, fallOf, meets, after-last, after-loop, loopOf, Open}
 use Rattle.apply.specs.Answers.{is-none, refusal}

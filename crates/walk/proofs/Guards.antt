@@ -15,9 +15,9 @@ use Rattle.definition.specs.Effects.{need, takes, pushes, set-local, write, jum
 use Rattle.definition.specs.Tests.{no-flat, is-blind, reading, reading-test, other-tests}
 use Rattle.definition.specs.Walk.{State as AnyState, height, after, mark, mark-blind, examine, floor-test, need-test, height-test}
 use Rattle.theorems.specs.Cover.{no-false}
-use Rattle.shapes.specs.declared.State.{State}
-use Rattle.shapes.specs.Model.{stateOf, stackOf, popped}
-use Rattle.shapes.proofs.Stores.{pop-law}
+use Rattle.frame.specs.declared.State.{State}
+use Rattle.frame.specs.Model.{stateOf, stackOf, popped}
+use Rattle.frame.proofs.Stores.{pop-law}
 use Rattle.bytecode.specs.Meaning.{first-op}
 use Rattle.apply.specs.Answers.{is-none, refusal}
 use Rattle.apply.specs.Rules.{own-tests}

@@ -28,8 +28,8 @@ use Rattle.definition.specs.Basics.{Result, ok, refused, _>>=_}
 use Rattle.definition.specs.Shapes.{same-shapes}
 use Rattle.definition.specs.Walk.{State as AnyState, Sheets, Walked, Left as AnyLeft, Breaks as AnyBreaks, no-break, joined, unequal, height, join-states}
 use Rattle.definition.specs.Walk.{add-joined, add-break, join-tested, join-ends, leave, neutral, last-end}
-use Rattle.shapes.specs.declared.State.{State}
-use Rattle.shapes.specs.Model.{stateOf, stackOf, localsOf}
+use Rattle.frame.specs.declared.State.{State}
+use Rattle.frame.specs.Model.{stateOf, stackOf, localsOf}
 use Rattle.shapes.proofs.Lists.{down-length}
 use Rattle.walk.specs.Outcomes.{numbers, pendingOf, breaksOf, flowOf, walkedOf, leavingOf, leftOf, fallOf, meets, after-last, Open}
 use Rattle.walk.specs.declared.Refusal.{Refusal}

@@ -15,8 +15,8 @@ use Rattle.definition.specs.Walk.{State as AnyState, Sheets, Walked, no-break, 
 use Rattle.definition.specs.Check.{in-chunk, walk-all}
 use Rattle.theorems.specs.Nested.{whole}
 use Rattle.theorems.specs.Fuel.{full, chunk-full}
-use Rattle.shapes.specs.declared.State.{State}
-use Rattle.shapes.specs.Model.{stateOf, stackOf, localsOf, withLocal}
+use Rattle.frame.specs.declared.State.{State}
+use Rattle.frame.specs.Model.{stateOf, stackOf, localsOf, withLocal}
 use Rattle.bytecode.specs.Lists.{tabulate}
 use Rattle.bytecode.specs.Meaning.{chunkOf, chunksOf, count, sigsOf, localsAt, locals-low, first-op, op-count, code-length, chunk-sig, chunk-locals}
 use Rattle.apply.specs.declared.Ctx.{Ctx}

@@ -19,8 +19,8 @@ use Rattle.definition.specs.Walk.{walk-arms, passes, forget, walk-instr}
 use Rattle.theorems.specs.Facts.{is-quiet, quiet}
 use Rattle.theorems.specs.Cover.{no-false}
 use Rattle.theorems.specs.Fuel.{full}
-use Rattle.shapes.specs.declared.State.{State}
-use Rattle.shapes.specs.Model.{stateOf, stackOf}
+use Rattle.frame.specs.declared.State.{State}
+use Rattle.frame.specs.Model.{stateOf, stackOf}
 use Rattle.bytecode.specs.Meaning.{first-op, chunk-base}
 use Rattle.walk.specs.Outcomes.{values-of, numbers, breaksOf, onwardOf, restOf, loopOf, after-loop}
 use Rattle.apply.specs.Answers.{is-none, refusal, resultOf}

@@ -19,8 +19,8 @@ use Rattle.theorems.specs.Fuel.{full, full-visit}
 use Rattle.bytecode.specs.Meaning.{chunkOf, first-op, op-count, instrAt, chunk-base}
 use Rattle.bytecode.specs.Parts.{instrOf, Instr-is}
 use Rattle.bytecode.specs.declared.Instr.{Instr}
-use Rattle.shapes.specs.declared.State.{State}
-use Rattle.shapes.specs.Model.{stateOf}
+use Rattle.frame.specs.declared.State.{State}
+use Rattle.frame.specs.Model.{stateOf}
 use Rattle.apply.specs.declared.Ctx.{Ctx}
 use Rattle.apply.specs.declared.Step.{Step}
 use Rattle.apply.specs.declared.Verdict.{Verdict}

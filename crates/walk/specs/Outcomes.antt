@@ -6,8 +6,8 @@ use Rattle.definition.specs.Basics.{Result, ok, refused, _>>=_}
 use Rattle.definition.specs.Instructions.{Chunk}
 use Rattle.definition.specs.Walk.{State as AnyState, Sheets, Walked, Left as AnyLeft, Breaks as AnyBreaks, no-break, joined, unequal, height, join-ends, last-end, passes, forget}
 use Rattle.theorems.specs.Fuel.{full}
-use Rattle.shapes.specs.declared.State.{State}
-use Rattle.shapes.specs.Model.{stateOf}
+use Rattle.frame.specs.declared.State.{State}
+use Rattle.frame.specs.Model.{stateOf}
 use Rattle.apply.specs.Answers.{refusal}
 use Rattle.walk.specs.declared.Refusal.{Refusal}
 use Rattle.walk.specs.declared.Refusal.the-variants.{Instruction, BranchHeightMismatch, LoopNotNeutral, Misplaced}

@@ -14,9 +14,9 @@ use Rattle.definition.specs.Basics.{Result, ok, refused, first}
 use Rattle.definition.specs.Walk.{State as AnyState, Sheets, Walked, Left as AnyLeft, no-break, examine, mark, walk-instr, add-break, walk-arms, forget, with-locals}
 use Rattle.definition.specs.Walk.{floor-test, need-test}
 use Rattle.theorems.specs.Fuel.{full}
-use Rattle.shapes.specs.declared.State.{State}
+use Rattle.frame.specs.declared.State.{State}
 use Rattle.definition.specs.Nesting.{else-at}
-use Rattle.shapes.specs.Model.{stateOf, stackOf, localsOf}
+use Rattle.frame.specs.Model.{stateOf, stackOf, localsOf}
 use Rattle.walk.specs.Outcomes.{numbers, breaksOf, Low, after-last}
 use Rattle.walk.specs.declared.Onward.{Onward}
 use Rattle.walk.specs.declared.Flow.the-variants.{Ended}

@@ -12,7 +12,7 @@ ghost use Rattle.definition.specs.Nesting.{else-at};
 ghost use Rattle.definition.specs.Shapes.{unknown};
 ghost use Rattle.definition.specs.Check.{walk-all};
 ghost use Rattle.definition.specs.Walk.{params, start-locals, walk-chunk, Sheets, forget, with-locals, walk-arms, add-break, join-ends, leave, last-end};
-ghost use Rattle.shapes.specs.Model.{stateOf, localsOf, withLocal};
+ghost use Rattle.frame.specs.Model.{stateOf, localsOf, withLocal};
 ghost use Rattle.walk.specs.Outcomes.{breaksOf, walkedOf, restOf, leftOf, elseOf, fallOf, meets, after-last, loopOf, after-loop, Open, Low};
 ghost use Rattle.walk.specs.declared.Flow.the-variants.{Refused};
 ghost use Rattle.walk.specs.declared.Pending.the-variants.{Joined};

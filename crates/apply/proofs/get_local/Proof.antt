@@ -1,7 +1,7 @@
 use mathlib.Core.Path.{_∙_}
 use Rattle.definition.specs.Instructions.{shaped, GetLocal}
-use Rattle.shapes.specs.Model.{stateOf}
-use Rattle.shapes.proofs.Stores.{get-past}
+use Rattle.frame.specs.Model.{stateOf}
+use Rattle.frame.proofs.Stores.{get-past}
 use Rattle.apply.proofs.Rules.{quiet, quiet-local}
 use native.Mathlib.Omega.{arith}
 use borrow.Author.Needs.{needs}

@@ -7,7 +7,7 @@ use lib.IntN.{pos, _-ℤ_}
 use Rattle.definition.specs.Effects.{pushes}
 use Rattle.bytecode.specs.Meaning.{chunkOf, chunk-natives}
 use Rattle.bytecode.specs.Parts.{instrOf}
-use Rattle.shapes.specs.Model.{stateOf}
+use Rattle.frame.specs.Model.{stateOf}
 use Rattle.apply.proofs.Numbers.{effect-of}
 use Rattle.apply.proofs.Rules.{generic-net}
 use Rattle.apply.proofs.Codes.{as-const, as-local, as-dup, as-stored, as-checked, as-index, as-part, as-yield, as-enum, as-struct, as-verified, as-external}

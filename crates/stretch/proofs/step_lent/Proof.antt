@@ -41,7 +41,7 @@ use denote.Triple.Table.{entered, cited}
 use denote.Triple.Walked.{says, needs, Stays, stay-ref, stay-none, stay-none-slice, walkOf, AllGo, goes-none, goes-none-slice, goes-ref, Walks, ends-at, walked, walk-meets}
 use denote.Triple.Clauses.{ensured, lasts}
 use denote.Exit.{yes}
-use Rattle.shapes.specs.declared.State.{State}
+use Rattle.frame.specs.declared.State.{State}
 use Rattle.apply.specs.declared.Ctx.{Ctx}
 use Rattle.apply.specs.Answers.{Of}
 use Rattle.stretch.specs.declared.Seen.{Seen}

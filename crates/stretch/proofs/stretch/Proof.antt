@@ -5,10 +5,11 @@ use borrow.Author.Needs.{needs}
 use lib.ListN.{length, set, length-set}
 use lib.Seq.{paste, length-paste}
 use Rattle.definition.specs.Shapes.{Shape as AnyShape}
-use Rattle.shapes.specs.declared.State.{State}
-use Rattle.shapes.specs.Model.{valueOf, valueAt, plainOf}
+use Rattle.frame.specs.declared.State.{State}
+use Rattle.shapes.specs.Model.{valueOf, plainOf}
+use Rattle.frame.specs.Model.{valueAt}
 use Rattle.shapes.specs.Slots.{Laid}
-use Rattle.shapes.proofs.Stores.{length-mapped}
+use Rattle.frame.proofs.Stores.{length-mapped}
 use Rattle.apply.specs.declared.Step.{Step}
 use Rattle.apply.specs.declared.Change.{Change}
 use Rattle.apply.specs.Changes.{Looks, stepWith, stoppedAt}

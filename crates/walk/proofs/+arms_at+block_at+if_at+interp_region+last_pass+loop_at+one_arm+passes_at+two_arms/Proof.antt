@@ -8,7 +8,7 @@ use lib.ListN.{length, length-set}
 use Rattle.definition.specs.Instructions.{ifTo, control}
 use Rattle.bytecode.specs.Meaning.{locals-low}
 use Rattle.bytecode.specs.declared.Instr.{Instr}
-use Rattle.shapes.specs.declared.State.{State}
+use Rattle.frame.specs.declared.State.{State}
 use Rattle.shapes.specs.Cover.{covers-all}
 use Rattle.walk.specs.Outcomes as Outcomes
 use Rattle.walk.specs.Ready as Ready

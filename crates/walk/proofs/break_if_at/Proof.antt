@@ -9,7 +9,7 @@ use Rattle.walk.proofs.Guards as Guards
 use Rattle.bytecode.specs.Meaning.{locals-low}
 use Rattle.walk.proofs.Steps.{visit-break-if, visit-refused}
 use Rattle.definition.specs.Instructions.{breakIfTo}
-use Rattle.shapes.specs.declared.State.{State}
+use Rattle.frame.specs.declared.State.{State}
 use Rattle.walk.specs.declared.Breaks.{Breaks}
 use borrow.Author.Needs.{needs}
 use Rattle.walk.proofs.break_if_at.Statement.{statement}

@@ -5,7 +5,7 @@ use native.Mathlib.Omega.{arith}
 use Rattle.definition.specs.Shapes.{Shape}
 use Rattle.definition.specs.Effects.{set-local}
 use Rattle.definition.specs.Walk.{with-locals}
-use Rattle.shapes.specs.Model.{stateOf}
+use Rattle.frame.specs.Model.{stateOf}
 use Rattle.walk.proofs.Codes.{instr-here, writes-local, writes-none}
 use Rattle.walk.proofs.Laws.{forget-local, forget-none}
 use borrow.Author.Needs.{needs}

@@ -3,7 +3,7 @@ use mathlib.Core.Path.{_≡_, _∙_, refl, sym, subst}
 use Prim.Native.Nat.{_≤_}
 use Rattle.walk.specs.Outcomes.{leavingOf}
 use Rattle.walk.proofs.Laws.{last-refused, last-none, last-stable, last-other}
-use Rattle.shapes.specs.declared.State.{State}
+use Rattle.frame.specs.declared.State.{State}
 use borrow.Author.Needs.{needs}
 use Rattle.walk.proofs.last_end.Statement.{statement}
 use Rattle.walk.proofs.last_end.Tie as tie

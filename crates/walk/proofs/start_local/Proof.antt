@@ -1,6 +1,6 @@
 use mathlib.Core.Path.{_≡_, sym, ap, _∙_}
 use Rattle.definition.specs.Shapes.{Shape}
-use Rattle.shapes.specs.Model.{stateOf, withLocal}
+use Rattle.frame.specs.Model.{stateOf, withLocal}
 use Rattle.walk.proofs.Start.{param-is}
 use borrow.Author.Needs.{needs}
 use Rattle.walk.proofs.start_local.Statement.{statement}

@@ -8,7 +8,7 @@ use Rattle.walk.specs.Ready.{chunkIn, instrIn}
 use Rattle.walk.proofs.Guards as Guards
 use Rattle.walk.proofs.Steps.{visit-stops, visit-refused}
 use Rattle.definition.specs.Instructions.{stops}
-use Rattle.shapes.specs.declared.State.{State}
+use Rattle.frame.specs.declared.State.{State}
 use Rattle.walk.specs.declared.Breaks.{Breaks}
 use borrow.Author.Needs.{needs}
 use Rattle.walk.proofs.trap_at.Statement.{statement}
