@@ -41,6 +41,11 @@ abbrev pub is-none : Option (List ℕ) → Bool
 is-none none = true
 is-none (some r) = false
 
+-- the values of a refusal, where there is one
+unfoldable pub values-of : Option (List ℕ) → List ℕ
+values-of none = []
+values-of (some r) = r
+
 -- the state after, or the refusal
 abbrev pub resultOf : ℕ → Verdict → State → Result AnyState
 resultOf locals v u = pass (refusal v) (stateOf locals u)

@@ -38,66 +38,10 @@ use Rattle.walk.specs.declared.Onward.{Onward}
 use Rattle.apply.specs.declared.Ctx.{Ctx}
 use Rattle.walk.proofs.Laws.{height-is}
 
--- ── Verdicts ──────────────────────────────────────────────────────────────────────────────
-
-pub passed-is : (locals : ℕ) (r : Step) → is-none (refusal (r .verdict)) ≡ true → resultOf locals r ≡ ok (stateOf locals (r .state))
-unfolding pass
-passed-is locals r e = go (refusal (r .verdict)) e
-  where
-    go : (o : Option (List ℕ)) → is-none o ≡ true → pass o (stateOf locals (r .state)) ≡ ok (stateOf locals (r .state))
-    go none h = refl
-    go (some q) h = absurd (no-false h)
-
-pub refused-is : (locals : ℕ) (r : Step) → is-none (refusal (r .verdict)) ≡ false → resultOf locals r ≡ refused (numbers (Instruction (r .verdict)))
-unfolding pass numbers values-of
-refused-is locals r e = go (refusal (r .verdict)) e
-  where
-    go : (o : Option (List ℕ)) → is-none o ≡ false → pass o (stateOf locals (r .state)) ≡ refused (values-of o)
-    go none h = absurd (no-false (sym h))
-    go (some q) h = refl
-
 -- ── Where it leads ────────────────────────────────────────────────────────────────────────
 
--- what is examined with tests
-abbrev Tested : Control → Type 0
-Tested onward = Unit {0}
-Tested stops = Unit {0}
-Tested returns = ⊥
-Tested resets = Unit {0}
-Tested endIf = ⊥
-Tested endLoop = ⊥
-Tested ends = ⊥
-Tested (ifTo t) = Unit {0}
-Tested (elseTo t) = ⊥
-Tested (loopTo t) = ⊥
-Tested (breakTo t) = ⊥
-Tested (breakIfTo t) = Unit {0}
-
 module _ (c : Chunk) (w : Walker) (ip end floor : ℕ) (s : AnyState) (b : AnyBreaks) (sh : Sheets) (i : AnyInstr) where
-  pub instr-refused : (k : Control) → Tested k → (r : List ℕ) → examine c ip floor i s ≡ refused r → walk-instr c w ip end floor s b sh i k ≡ refused r
-  unfolding walk-instr _>>=_
-  instr-refused onward h r e = ap (λ (m : Result AnyState). m >>= λ (u : AnyState). w (suc ip) end floor u b (mark c ip i s sh)) e
-  instr-refused stops h r e = ap (λ (m : Result AnyState). m >>= λ (u : AnyState). ok (record { fall = none; breaks = b; sheets = mark c ip i s sh })) e
-  instr-refused returns h r e = absurd h
-  instr-refused resets h r e = ap (λ (m : Result AnyState). m >>= λ (u : AnyState). w (suc ip) end floor u b (mark c ip i s sh)) e
-  instr-refused endIf h r e = absurd h
-  instr-refused endLoop h r e = absurd h
-  instr-refused ends h r e = absurd h
-  instr-refused (ifTo t) h r e = ap (λ (m : Result AnyState). m >>= λ (u : AnyState). walk-arms w ip t end floor u b (mark c ip i s sh) (else-at c ip t)) e
-  instr-refused (elseTo t) h r e = absurd h
-  instr-refused (loopTo t) h r e = absurd h
-  instr-refused (breakTo t) h r e = absurd h
-  instr-refused (breakIfTo t) h r e = ap (λ (m : Result AnyState). m >>= λ (u : AnyState). w (suc ip) end floor u (add-break b u) (mark c ip i s sh)) e
-
   module _ (u : AnyState) (e : examine c ip floor i s ≡ ok u) where
-    pub instr-onward : walk-instr c w ip end floor s b sh i onward ≡ w (suc ip) end floor u b (mark c ip i s sh)
-    unfolding walk-instr _>>=_
-    instr-onward = ap (λ (m : Result AnyState). m >>= λ (v : AnyState). w (suc ip) end floor v b (mark c ip i s sh)) e
-
-    pub instr-resets : walk-instr c w ip end floor s b sh i resets ≡ w (suc ip) end floor u b (mark c ip i s sh)
-    unfolding walk-instr _>>=_
-    instr-resets = ap (λ (m : Result AnyState). m >>= λ (v : AnyState). w (suc ip) end floor v b (mark c ip i s sh)) e
-
     pub instr-stops : walk-instr c w ip end floor s b sh i stops ≡ ok (record { fall = none; breaks = b; sheets = mark c ip i s sh })
     unfolding walk-instr _>>=_
     instr-stops = ap (λ (m : Result AnyState). m >>= λ (v : AnyState). ok (record { fall = none; breaks = b; sheets = mark c ip i s sh })) e
