@@ -23,25 +23,28 @@ use Rattle.theorems.specs.Fuel.{full, full-visit, full-end}
 use Rattle.frame.specs.declared.State.{State}
 use Rattle.frame.specs.Model.{stateOf, stackOf, localsOf}
 use Rattle.bytecode.specs.Meaning.{chunkOf, first-op, op-count, localsAt, instrAt, code-length, chunk-locals}
-use Rattle.walk.specs.Outcomes.{numbers, pendingOf, breaksOf, flowOf, walkedOf, onwardOf, restOf, leavingOf, leftOf, fallOf, meets, after-last, after-loop, loopOf, Open}
+use Rattle.blocks.specs.Outcomes.{numbers, pendingOf, breaksOf, flowOf, walkedOf, onwardOf, restOf, leavingOf, leftOf, fallOf, meets, after-last, after-loop, loopOf, Open}
 use Rattle.apply.specs.Answers.{is-none, refusal}
-use Rattle.walk.specs.Ready.{Placed, Ready, chunkIn, instrIn, Examined, markIn, visitIn, leads, armsIn, forgotten, lastIn}
+use Rattle.blocks.specs.Visits.{Placed, chunkIn, instrIn, Examined, markIn, visitIn}
+use Rattle.stretch.specs.Stretch.{leads}
+use Rattle.walk.specs.Ready.{Ready, armsIn, forgotten, lastIn}
 use Rattle.stretch.specs.Stretch.{sheetsOf, straight}
-use Rattle.walk.specs.declared.Refusal.{Refusal}
-use Rattle.walk.specs.declared.Refusal.the-variants.{Instruction}
-use Rattle.walk.specs.declared.Flow.{Flow}
-use Rattle.walk.specs.declared.Flow.the-variants.{Refused, Ended, Falls}
-use Rattle.walk.specs.declared.Leaving.{Leaving}
-use Rattle.walk.specs.declared.Pending.the-variants.{Nothing}
-use Rattle.apply.specs.declared.Step.{Step}
-use Rattle.walk.specs.declared.Breaks.{Breaks}
-use Rattle.walk.specs.declared.Outcome.{Outcome}
-use Rattle.walk.specs.declared.Onward.{Onward}
-use Rattle.walk.specs.declared.Left.{Left}
+use Rattle.blocks.specs.declared.Refusal.{Refusal}
+use Rattle.blocks.specs.declared.Refusal.the-variants.{Instruction}
+use Rattle.blocks.specs.declared.Flow.{Flow}
+use Rattle.blocks.specs.declared.Flow.the-variants.{Refused, Ended, Falls}
+use Rattle.blocks.specs.declared.Leaving.{Leaving}
+use Rattle.blocks.specs.declared.Pending.the-variants.{Nothing}
+use Rattle.blocks.specs.Visits.{StepIn}
+use Rattle.blocks.specs.Outcomes.{BreaksIn}
+use Rattle.blocks.specs.Outcomes.{OutcomeIn}
+use Rattle.blocks.specs.Outcomes.{OnwardIn}
+use Rattle.blocks.specs.Outcomes.{LeftIn}
 use Rattle.apply.specs.declared.Ctx.{Ctx}
-use Rattle.walk.proofs.Codes.{instr-here, no-instr, straight-leads}
-use Rattle.walk.proofs.Laws.{height-is}
-use Rattle.walk.proofs.Steps.{examined-ok, instr-refused, instr-onward, instr-resets, instr-if, visit-refused, refused-is, quiet-mark}
+use Rattle.stretch.proofs.Codes.{instr-here, no-instr, straight-leads}
+use Rattle.blocks.proofs.Laws.{height-is}
+use Rattle.stretch.proofs.Laws.{instr-refused, instr-onward, instr-resets, refused-is}
+use Rattle.blocks.proofs.Steps.{examined-ok, instr-if, visit-refused, quiet-mark}
 
 -- ── A stretch ─────────────────────────────────────────────────────────────────────────────
 
@@ -66,13 +69,13 @@ module _ (t h b : List ℕ) (x : Ctx) (ip end floor u v : ℕ) (r : Ready t h b 
   leads-at e = ap control-of there ∙ e
 
   -- the walk from ip on is the visit to its instruction
-  pub at-instr : (s : State) (k : Breaks) (sh : Sheets) (c : Control) → control (instrIn t x ip) ≡ c →
+  pub at-instr : (s : State) (k : BreaksIn) (sh : Sheets) (c : Control) → control (instrIn t x ip) ≡ c →
       full (chunkIn t x) ip end floor (stateOf (x .locals) s) (breaksOf (x .locals) k) sh ≡ visitIn t x ip end floor s k sh c
   at-instr s k sh c e =
       full-visit (chunkIn t x) (r .placed .nested) (r .from) ip end floor (stateOf (x .locals) s) (breaksOf (x .locals) k) sh (r .arm) (r .after) below (instrIn t x ip) there c e
 
 -- The walk has come from `start` to ip.
-pub record Walking (t h₀ b₀ : List ℕ) (x : Ctx) (start end floor : ℕ) (s₀ : State) (k₀ : Breaks) (h b : List ℕ) (ip : ℕ) (s : State) (k : Breaks) : Type 0 where
+pub record Walking (t h₀ b₀ : List ℕ) (x : Ctx) (start end floor : ℕ) (s₀ : State) (k₀ : BreaksIn) (h b : List ℕ) (ip : ℕ) (s : State) (k : BreaksIn) : Type 0 where
   pub ready : Ready t h b x ip end floor (s .height) (k .state .height)
   pub onward : start ≤ ip
   pub heights-same : length h ≡ length h₀
@@ -81,7 +84,7 @@ pub record Walking (t h₀ b₀ : List ℕ) (x : Ctx) (start end floor : ℕ) (s
       full (chunkIn t x) start end floor (stateOf (x .locals) s₀) (breaksOf (x .locals) k₀) (sheetsOf h₀ b₀)
       ≡ full (chunkIn t x) ip end floor (stateOf (x .locals) s) (breaksOf (x .locals) k) (sheetsOf h b)
 
-module _ (t h₀ b₀ : List ℕ) (x : Ctx) (start end floor : ℕ) (s₀ : State) (k₀ : Breaks) (h b : List ℕ) (ip : ℕ) (s : State) (k : Breaks)
+module _ (t h₀ b₀ : List ℕ) (x : Ctx) (start end floor : ℕ) (s₀ : State) (k₀ : BreaksIn) (h b : List ℕ) (ip : ℕ) (s : State) (k : BreaksIn)
     (W : Walking t h₀ b₀ x start end floor s₀ k₀ h b ip s k) where
   -- at the end of the stretch
   pub walking-end : end ≤ ip →
@@ -92,7 +95,7 @@ module _ (t h₀ b₀ : List ℕ) (x : Ctx) (start end floor : ℕ) (s₀ : Stat
 
   module _ (below : ip < end) (code a : ℕ) (leads-there : control (instrIn t x ip) ≡ leads code a) where
     -- an instruction with its blocks
-    module _ (r : Onward) (h′ b′ : List ℕ)
+    module _ (r : OnwardIn) (h′ b′ : List ℕ)
         (R : restOf (chunkIn t x) (x .locals) end floor r (sheetsOf h′ b′) ≡ visitIn t x ip end floor s k (sheetsOf h b) (leads code a)) where
       whole : restOf (chunkIn t x) (x .locals) end floor r (sheetsOf h′ b′)
           ≡ full (chunkIn t x) start end floor (stateOf (x .locals) s₀) (breaksOf (x .locals) k₀) (sheetsOf h₀ b₀)
@@ -139,7 +142,7 @@ module _ (t h₀ b₀ : List ℕ) (x : Ctx) (start end floor : ℕ) (s₀ : Stat
 -- ── Arms ──────────────────────────────────────────────────────────────────────────────────
 
 -- a stretch that was not refused
-pub open-walked : (locals : ℕ) (o : Outcome) (sh : Sheets) → Open (o .flow) →
+pub open-walked : (locals : ℕ) (o : OutcomeIn) (sh : Sheets) → Open (o .flow) →
     walkedOf locals o sh ≡ ok (record { fall = fallOf locals (o .state) (o .flow); breaks = breaksOf locals (o .breaks); sheets = sh })
 unfolding flowOf fallOf
 open-walked locals o sh h = go (o .flow) refl h
@@ -151,7 +154,7 @@ open-walked locals o sh h = go (o .flow) refl h
 
 module _ (c : Chunk) (locals e end floor : ℕ) where
   -- on from what a block left
-  onward-go : (o : Outcome) (sh : Sheets) (f : Flow) →
+  onward-go : (o : OutcomeIn) (sh : Sheets) (f : Flow) →
       onwardOf c locals (suc e) end floor o sh f ≡ (flowOf locals o sh f >>= λ (w : Walked). go-on (full c) e end floor (w .breaks) (w .sheets) (w .fall))
   unfolding onwardOf flowOf go-on _>>=_
   onward-go o sh (Refused r) = refl
@@ -165,7 +168,7 @@ module _ (c : Chunk) (locals e end floor : ℕ) where
   meets-go (ok j) k sh = refl
   meets-go (refused r) k sh = refl
 
-  pub joined-go : (ip : ℕ) (A B : Option AnyState) (k : AnyBreaks) (m : Outcome) (n : ℕ) (sh : Sheets) → n ≡ suc e → walkedOf locals m sh ≡ meets ip A B k sh →
+  pub joined-go : (ip : ℕ) (A B : Option AnyState) (k : AnyBreaks) (m : OutcomeIn) (n : ℕ) (sh : Sheets) → n ≡ suc e → walkedOf locals m sh ≡ meets ip A B k sh →
       onwardOf c locals n end floor m sh (m .flow) ≡ (join-ends ip A B >>= λ (j : Option AnyState). go-on (full c) e end floor k sh j)
   unfolding meets
   joined-go ip A B k m n sh q h =
@@ -174,7 +177,7 @@ module _ (c : Chunk) (locals e end floor : ℕ) where
       ∙ ap (λ (z : Result Walked). z >>= λ (w : Walked). go-on (full c) e end floor (w .breaks) (w .sheets) (w .fall)) h
       ∙ meets-go (join-ends ip A B) k sh
 
-module _ (t : List ℕ) (x : Ctx) (target ip end floor : ℕ) (s : State) (b : Breaks) (sh sh₁ : Sheets) (a : Outcome) where
+module _ (t : List ℕ) (x : Ctx) (target ip end floor : ℕ) (s : State) (b : BreaksIn) (sh sh₁ : Sheets) (a : OutcomeIn) where
   abbrev C : Chunk
   C = chunkIn t x
 
@@ -206,7 +209,7 @@ module _ (t : List ℕ) (x : Ctx) (target ip end floor : ℕ) (s : State) (b : B
         (first-arm ∙ ap (flowOf (x .locals) a sh₁) e))
         ∙ one-arm
 
-    pub one-joined : Open (a .flow) → (m : Outcome) → walkedOf (x .locals) m sh₁ ≡ meets ip (fallOf (x .locals) (a .state) (a .flow)) (some S) (breaksOf (x .locals) (a .breaks)) sh₁ →
+    pub one-joined : Open (a .flow) → (m : OutcomeIn) → walkedOf (x .locals) m sh₁ ≡ meets ip (fallOf (x .locals) (a .state) (a .flow)) (some S) (breaksOf (x .locals) (a .breaks)) sh₁ →
         onwardOf C (x .locals) (target + 1) end floor m sh₁ (m .flow) ≡ armsIn t x target ip end floor s b sh
     unfolding walk-arms _>>=_
     one-joined o m h =
@@ -236,7 +239,7 @@ module _ (t : List ℕ) (x : Ctx) (target ip end floor : ℕ) (s : State) (b : B
     then-refused n f =
         refused-at-first n f ∙ ap (flowOf (x .locals) a sh₁) f ∙ sym (ap rest (then-arm-is ∙ ap (flowOf (x .locals) a sh₁) f)) ∙ two-arms
 
-    module _ (o : Open (a .flow)) (d : Outcome) (sh₂ : Sheets)
+    module _ (o : Open (a .flow)) (d : OutcomeIn) (sh₂ : Sheets)
         (D : walkedOf (x .locals) d sh₂ ≡ full C target e floor S (breaksOf (x .locals) (a .breaks)) sh₁) where
       abbrev last : Result Walked → Result Walked
       last m =
@@ -254,7 +257,7 @@ module _ (t : List ℕ) (x : Ctx) (target ip end floor : ℕ) (s : State) (b : B
           ap (onwardOf C (x .locals) n end floor d sh₂) f
           ∙ sym (after-then ∙ ap last (sym D ∙ ap (flowOf (x .locals) d sh₂) f)) ∙ two-arms
 
-      pub both-joined : Open (d .flow) → (m : Outcome) →
+      pub both-joined : Open (d .flow) → (m : OutcomeIn) →
           walkedOf (x .locals) m sh₂ ≡ meets ip (fallOf (x .locals) (a .state) (a .flow)) (fallOf (x .locals) (d .state) (d .flow)) (breaksOf (x .locals) (d .breaks)) sh₂ →
           onwardOf C (x .locals) (e + 1) end floor m sh₂ (m .flow) ≡ armsIn t x target ip end floor s b sh
       unfolding walk-arms _>>=_
@@ -301,7 +304,7 @@ module _ (t : List ℕ) (x : Ctx) (ip exit : ℕ) (s₀ : State) where
             ap (λ (n : ℕ). passes body lost ip (n + 2) (stateOf (x .locals) s₀) (sheetsOf h b)) (chunk-locals t (x .chunk) ∙ sym e);
       }
 
-  module _ (h₀ b₀ h b : List ℕ) (head : State) (left : ℕ) (P : Passing h₀ b₀ h b head left) (o : Outcome) (h′ b′ : List ℕ) (none-yet : Breaks) (starts : none-yet .pending ≡ Nothing)
+  module _ (h₀ b₀ h b : List ℕ) (head : State) (left : ℕ) (P : Passing h₀ b₀ h b head left) (o : OutcomeIn) (h′ b′ : List ℕ) (none-yet : BreaksIn) (starts : none-yet .pending ≡ Nothing)
       (O : walkedOf (x .locals) o (sheetsOf h′ b′)
       ≡ full (chunkIn t x) (ip + 1) (exit - 1) (s₀ .height) (stateOf (x .locals) head) (breaksOf (x .locals) none-yet) (sheetsOf h b)) where
     abbrev H : AnyState
@@ -396,8 +399,8 @@ module _ (t : List ℕ) (x : Ctx) (ip exit : ℕ) (s₀ : State) where
 
 -- ── After a loop ──────────────────────────────────────────────────────────────────────────
 
-module _ (t : List ℕ) (x : Ctx) (target ip end floor : ℕ) (s : State) (b : Breaks) (h bl h₁ : List ℕ) (f : x .first ≡ first-op t (x .chunk))
-    (there : control (instrIn t x ip) ≡ loopTo target) (m : h₁ ≡ set h (x .first + ip) (suc (s .height))) (l : Left) (sh : Sheets)
+module _ (t : List ℕ) (x : Ctx) (target ip end floor : ℕ) (s : State) (b : BreaksIn) (h bl h₁ : List ℕ) (f : x .first ≡ first-op t (x .chunk))
+    (there : control (instrIn t x ip) ≡ loopTo target) (m : h₁ ≡ set h (x .first + ip) (suc (s .height))) (l : LeftIn) (sh : Sheets)
     (P : leftOf (x .locals) l sh ≡ loopOf (chunkIn t x) ip target (stateOf (x .locals) s) (sheetsOf h₁ bl)) where
   around-loop : {q : Leaving} → l .leaving ≡ q →
       (leavingOf (x .locals) l sh q >>= λ (z : AnyLeft). full (chunkIn t x) target end floor (z .state) (breaksOf (x .locals) b) (z .sheets))
@@ -456,8 +459,8 @@ arm-in t x a end n f N arm = elim (decLt (x .count) end) [
 -- ── An If's condition, a loop's arm, the last pass ───────────────────────────────────────
 
 -- the arms after a condition that passed
-pub if-passed : (t : List ℕ) (x : Ctx) (target ip end floor : ℕ) (s : State) (b : Breaks) (h bl h₁ b₁ : List ℕ) (r : Step) → Examined t x ip floor s r →
-    is-none (refusal (r .verdict)) ≡ true → sheetsOf h₁ b₁ ≡ markIn t x ip s (sheetsOf h bl) → (o : Onward) (sh : Sheets) →
+pub if-passed : (t : List ℕ) (x : Ctx) (target ip end floor : ℕ) (s : State) (b : BreaksIn) (h bl h₁ b₁ : List ℕ) (r : StepIn) → Examined t x ip floor s r →
+    is-none (refusal (r .verdict)) ≡ true → sheetsOf h₁ b₁ ≡ markIn t x ip s (sheetsOf h bl) → (o : OnwardIn) (sh : Sheets) →
     restOf (chunkIn t x) (x .locals) end floor o sh ≡ armsIn t x target ip end floor (r .state) b (sheetsOf h₁ b₁) →
     restOf (chunkIn t x) (x .locals) end floor o sh ≡ visitIn t x ip end floor s b (sheetsOf h bl) (ifTo target)
 if-passed t x target ip end floor s b h bl h₁ b₁ r E p m o sh q =
@@ -477,9 +480,9 @@ loop-arm-in t x ip exit f n below e =
 -- the last pass, from what its body and its end gave
 pub last-made : (t : List ℕ) (x : Ctx) (ip exit floor : ℕ) (head lost-head : State) →
     stateOf (x .locals) lost-head ≡ with-locals (stateOf (x .locals) head) (forget (chunkIn t x) (ip + 1) (exit - 1 - (ip + 1)) (localsOf (x .locals) head)) →
-    (none-yet : Breaks) → none-yet .pending ≡ Nothing → (o : Outcome) (sh sh′ : Sheets) →
+    (none-yet : BreaksIn) → none-yet .pending ≡ Nothing → (o : OutcomeIn) (sh sh′ : Sheets) →
     walkedOf (x .locals) o sh′ ≡ full (chunkIn t x) (ip + 1) (exit - 1) floor (stateOf (x .locals) lost-head) (breaksOf (x .locals) none-yet) sh →
-    (l : Left) → leftOf (x .locals) l sh′ ≡ after-last ip (stateOf (x .locals) lost-head) (walkedOf (x .locals) o sh′) →
+    (l : LeftIn) → leftOf (x .locals) l sh′ ≡ after-last ip (stateOf (x .locals) lost-head) (walkedOf (x .locals) o sh′) →
     leftOf (x .locals) l sh′ ≡ lastIn t x ip exit floor head sh
 unfolding pendingOf
 last-made t x ip exit floor head lost-head e none-yet g o sh sh′ O l L =

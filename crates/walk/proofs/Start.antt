@@ -1,4 +1,4 @@
--- The state in which a walk begins, the walk of a chunk, and of all.
+-- The walk of a chunk, and of all.
 use mathlib.Core.Path.{_≡_, refl, sym, ap, _∙_, subst}
 use mathlib.Core.Bool.{Bool, true, false}
 use mathlib.Core.Option.{Option, none, some}
@@ -21,70 +21,16 @@ use Rattle.bytecode.specs.Lists.{tabulate}
 use Rattle.bytecode.specs.Meaning.{chunkOf, chunksOf, count, sigsOf, localsAt, locals-low, first-op, op-count, code-length, chunk-sig, chunk-locals}
 use Rattle.apply.specs.declared.Ctx.{Ctx}
 use Rattle.apply.specs.Answers.{Of}
-use Rattle.walk.specs.Outcomes.{numbers, pendingOf, breaksOf, flowOf, walkedOf, Open}
-use Rattle.walk.specs.Ready.{Placed, Ready, chunkIn, Roomy, with-chunk, resultsOf}
+use Rattle.blocks.specs.Outcomes.{numbers, pendingOf, breaksOf, flowOf, walkedOf, Open}
+use Rattle.blocks.specs.Visits.{Placed, chunkIn}
+use Rattle.walk.specs.Ready.{Ready, Roomy, with-chunk, resultsOf}
 use Rattle.stretch.specs.Stretch.{sheetsOf}
-use Rattle.walk.specs.declared.Refusal.{Refusal}
-use Rattle.walk.specs.declared.Flow.{Flow}
-use Rattle.walk.specs.declared.Flow.the-variants.{Refused, Ended, Falls}
-use Rattle.walk.specs.declared.Pending.the-variants.{Nothing}
-use Rattle.walk.specs.declared.Breaks.{Breaks}
-use Rattle.walk.specs.declared.Outcome.{Outcome}
-
--- ── Locals ────────────────────────────────────────────────────────────────────────────────
-
-pub param-is : (t : List ℕ) (x : Ctx) (i : ℕ) (v : Shape) → v ≡ getD (map from-wire (getD (sigsOf t) (x .chunk) no-sig .params)) i unknown → v ≡ getD (params (chunkIn t x)) i unknown
-unfolding params
-param-is t x i v e = e ∙ ap (λ (g : Sig). getD (map from-wire (g .params)) i unknown) (sym (chunk-sig t (x .chunk)))
-
--- n locals of which the first i are parameters
-pub filled : ℕ → ℕ → List Shape → List Shape
-filled zero n ps = replicate n unknown
-filled (suc i) zero ps = []
-filled (suc i) (suc n) [] = unknown ∷ filled i n []
-filled (suc i) (suc n) (p ∷ ps) = p ∷ filled i n ps
-
-filled-all : (n : ℕ) (ps : List Shape) → filled n n ps ≡ start-locals n ps
-unfolding filled start-locals
-filled-all zero ps = refl
-filled-all (suc n) [] = ap (λ (l : List Shape). unknown ∷ l) (filled-all n [])
-filled-all (suc n) (p ∷ ps) = ap (λ (l : List Shape). p ∷ l) (filled-all n ps)
-
-filled-more : (i n : ℕ) (ps : List Shape) → i < n → set (filled i n ps) i (getD ps i unknown) ≡ filled (suc i) n ps
-unfolding filled
-filled-more i zero ps h = absurd (omega arith)
-filled-more zero (suc n) [] h = refl
-filled-more zero (suc n) (p ∷ ps) h = refl
-filled-more (suc i) (suc n) [] h = ap (λ (l : List Shape). unknown ∷ l) (filled-more i n [] (omega arith))
-filled-more (suc i) (suc n) (p ∷ ps) h = ap (λ (l : List Shape). p ∷ l) (filled-more i n ps (omega arith))
-
--- the first i locals are set
-pub record Starting (locals i : ℕ) (ps : List Shape) (s : State) : Type 0 where
-  pub few : i ≤ locals
-  pub flat : s .height ≡ 0
-  pub state : stateOf locals s ≡ record { stack = []; locals = filled i locals ps }
-
-pub starting-none : (locals : ℕ) (ps : List Shape) (s : State) → s .height ≡ 0 → stateOf locals s ≡ record { stack = []; locals = replicate locals unknown } → Starting locals 0 ps s
-unfolding filled
-starting-none locals ps s h e = record { few = omega arith; flat = h; state = e }
-
-pub starting-more : (locals i : ℕ) (ps : List Shape) (s r : State) → i < locals → Starting locals i ps s → r .height ≡ s .height →
-    stateOf locals r ≡ withLocal i (getD ps i unknown) (stateOf locals s) → Starting locals (i + 1) ps r
-starting-more locals i ps s r h S g e =
-    record {
-      few = omega arith;
-      flat = g ∙ S .flat;
-      state =
-          e ∙ ap (withLocal i (getD ps i unknown)) (S .state)
-          ∙ ap (λ (l : List Shape). record { stack = []; locals = l }) (filled-more i locals ps h)
-          ∙ ap (λ (n : ℕ). record { stack = []; locals = filled n locals ps }) (let q : suc i ≡ i + 1 = omega arith in q);
-    }
-
-pub starting-all : (locals i : ℕ) (ps : List Shape) (s : State) → locals ≤ i → Starting locals i ps s → stateOf locals s ≡ record { stack = []; locals = start-locals locals ps }
-starting-all locals i ps s h S =
-    S .state
-    ∙ ap (λ (n : ℕ). record { stack = []; locals = filled n locals ps }) (let q : i ≡ locals = omega (arith, S .few) in q)
-    ∙ ap (λ (l : List Shape). record { stack = []; locals = l }) (filled-all locals ps)
+use Rattle.blocks.specs.declared.Refusal.{Refusal}
+use Rattle.blocks.specs.declared.Flow.{Flow}
+use Rattle.blocks.specs.declared.Flow.the-variants.{Refused, Ended, Falls}
+use Rattle.blocks.specs.declared.Pending.the-variants.{Nothing}
+use Rattle.blocks.specs.Outcomes.{BreaksIn}
+use Rattle.blocks.specs.Outcomes.{OutcomeIn}
 
 -- ── A chunk ───────────────────────────────────────────────────────────────────────────────
 
@@ -116,7 +62,7 @@ module _ (t h b : List ℕ) (k : ℕ) (R : Roomy t h b k) (x : Ctx) (O : Of t k 
         breaks-low = omega arith;
       }
 
-  pub chunk-walked : (s : State) (n : Breaks) (o : Outcome) (sh : Sheets) → stateOf (x .locals) s ≡ record { stack = []; locals = start-locals (x .locals) (params (chunkIn t x)) } →
+  pub chunk-walked : (s : State) (n : BreaksIn) (o : OutcomeIn) (sh : Sheets) → stateOf (x .locals) s ≡ record { stack = []; locals = start-locals (x .locals) (params (chunkIn t x)) } →
       n .pending ≡ Nothing →
       walkedOf (x .locals) o sh ≡ full (chunkIn t x) 0 (x .count) 0 (stateOf (x .locals) s) (breaksOf (x .locals) n) (sheetsOf h b) →
       walkedOf (localsAt t k) o sh ≡ walk-chunk (chunkOf t k) (sheetsOf h b)
@@ -156,7 +102,7 @@ walked-none t h b =
       on = ap (λ (n : ℕ). walk-all 0 (tabulate 0 n (chunkOf t)) (sheetsOf h b)) (let q : count t 7 ≡ count t 7 - 0 = omega arith in q);
     }
 
-module _ (t h₀ b₀ h b : List ℕ) (k : ℕ) (W : Walked-to t h₀ b₀ h b k) (below : k < count t 7) (o : Outcome) (h′ b′ : List ℕ)
+module _ (t h₀ b₀ h b : List ℕ) (k : ℕ) (W : Walked-to t h₀ b₀ h b k) (below : k < count t 7) (o : OutcomeIn) (h′ b′ : List ℕ)
     (C : walkedOf (localsAt t k) o (sheetsOf h′ b′) ≡ walk-chunk (chunkOf t k) (sheetsOf h b)) where
   next-chunk : {f : Flow} → o .flow ≡ f →
       walk-all 0 (chunksOf t) (sheetsOf h₀ b₀)
