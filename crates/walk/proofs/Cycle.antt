@@ -28,7 +28,10 @@ use Rattle.apply.specs.Answers.{is-none, refusal}
 use Rattle.blocks.specs.Visits.{Placed, chunkIn, instrIn, Examined, markIn, visitIn}
 use Rattle.stretch.specs.Stretch.{leads}
 use Rattle.walk.specs.Ready.{Ready, armsIn, forgotten, lastIn}
-use Rattle.stretch.specs.Stretch.{sheetsOf, straight}
+use Rattle.stretch.specs.Stretch.{sheetsOf, straight, Straight, Unfolds, Ran-is}
+use Rattle.stretch.specs.declared.Ran.{Ran}
+use Rattle.bytecode.specs.Parts.{Instr-is}
+use Rattle.bytecode.specs.declared.Instr.{Instr}
 use Rattle.blocks.specs.declared.Refusal.{Refusal}
 use Rattle.blocks.specs.declared.Refusal.the-variants.{Instruction}
 use Rattle.blocks.specs.declared.Flow.{Flow}
@@ -139,6 +142,57 @@ module _ (t h₀ b₀ : List ℕ) (x : Ctx) (start end floor : ℕ) (s₀ : Stat
             on = sym (ap (onwardOf (chunkIn t x) (x .locals) (r .next) end floor (r .out) (sheetsOf h′ b′)) (sym e) ∙ whole);
           }
 
+-- ── A stretch of straight instructions ────────────────────────────────────────────────────
+
+-- a stretch ends within its chunk
+pub end-inside : (t h b : List ℕ) (x : Ctx) (ip end floor u v : ℕ) → Ready t h b x ip end floor u v → end ≤ x .count
+end-inside t h b x ip end floor u v r = elim (decLt (x .count) end) [
+  | yes l ↦ absurd (in-arm (chunkIn t x) (r .placed .nested) (r .arm) (x .count) l (no-instr t (x .chunk) (x .first) (x .count) (x .count) (r .placed .of .first) (r .placed .of .count) (omega arith)))
+  | no g ↦ omega arith
+]
+
+-- the first instruction is straight
+pub straight-here : (t : List ℕ) (x : Ctx) (ip : ℕ) (i : Instr) → Instr-is t (x .first + ip) i → (b : Bool) → b ≡ straight (i .code) → b ≡ true → Straight t x ip
+straight-here t x ip i I b e f = ap straight (sym (I .code-is)) ∙ sym e ∙ f
+
+module _ (t h₀ b₀ : List ℕ) (x : Ctx) (start end floor : ℕ) (s₀ : State) (k₀ : BreaksIn) (h b : List ℕ) (ip : ℕ) (s : State) (k : BreaksIn)
+    (W : Walking t h₀ b₀ x start end floor s₀ k₀ h b ip s k) (r : Ran) (u : State) (h′ b′ : List ℕ)
+    (R : Ran-is t x ip end floor s (sheetsOf h b) r u (sheetsOf h′ b′)) where
+  -- the definition's walk takes one instruction after the other
+  unfolds : Unfolds t x ip end floor (full (chunkIn t x))
+  unfolds p after below m bs sh =
+      let q = W .ready in
+      let c : Chunk = chunkIn t x in
+      full-visit c (q .placed .nested) (q .from) p end floor m bs sh (q .arm) (omega (arith, q .after)) below (instrIn t x p)
+      (instr-here t (x .chunk) (x .first) (x .count) p (q .placed .of .first) (q .placed .of .count) (omega (arith, end-inside t h b x ip end floor _ _ q)))
+      (control (instrIn t x p)) refl
+
+  pub walking-ran : is-none (refusal (r .verdict)) ≡ true → length h′ ≡ length h → length b′ ≡ length b → Walking t h₀ b₀ x start end floor s₀ k₀ h′ b′ (r .next) u k
+  walking-ran p e f =
+      let q = W .ready in
+      record {
+        ready =
+            record {
+              placed = placed-by t h b h′ b′ x e f (q .placed);
+              from = q .from;
+              arm = q .arm;
+              after = omega (arith, q .after, R .from);
+              before = R .to;
+              floor-low = q .floor-low;
+              height-low = R .low;
+              breaks-low = q .breaks-low;
+            };
+        onward = omega (arith, W .onward, R .from);
+        heights-same = e ∙ W .heights-same;
+        blinds-same = f ∙ W .blinds-same;
+        on = W .on ∙ R .passed p (full (chunkIn t x)) unfolds (breaksOf (x .locals) k);
+      }
+
+  pub walking-refused : is-none (refusal (r .verdict)) ≡ false → (o : OutcomeIn) (sh′ : Sheets) → o .flow ≡ Refused (Instruction (r .verdict)) →
+      walkedOf (x .locals) o sh′ ≡ full (chunkIn t x) start end floor (stateOf (x .locals) s₀) (breaksOf (x .locals) k₀) (sheetsOf h₀ b₀)
+  unfolding flowOf numbers
+  walking-refused e o sh′ f = ap (flowOf (x .locals) o sh′) f ∙ sym (W .on ∙ R .refused-there e (full (chunkIn t x)) unfolds (breaksOf (x .locals) k))
+
 -- ── Arms ──────────────────────────────────────────────────────────────────────────────────
 
 -- a stretch that was not refused
@@ -151,6 +205,11 @@ open-walked locals o sh h = go (o .flow) refl h
     go (Refused r) e x = absurd x
     go Ended e x = ap (flowOf locals o sh) e ∙ ap (λ (f : Flow). ok (record { fall = fallOf locals (o .state) f; breaks = breaksOf locals (o .breaks); sheets = sh })) (sym e)
     go Falls e x = ap (flowOf locals o sh) e ∙ ap (λ (f : Flow). ok (record { fall = fallOf locals (o .state) f; breaks = breaksOf locals (o .breaks); sheets = sh })) (sym e)
+
+-- the state of a stretch that was refused says nothing
+pub refused-same : (locals : ℕ) (o d : OutcomeIn) (sh : Sheets) {q : Refusal} → o .flow ≡ Refused q → d .flow ≡ Refused q → walkedOf locals o sh ≡ walkedOf locals d sh
+unfolding flowOf
+refused-same locals o d sh e f = ap (flowOf locals o sh) e ∙ sym (ap (flowOf locals d sh) f)
 
 module _ (c : Chunk) (locals e end floor : ℕ) where
   -- on from what a block left
@@ -292,16 +351,18 @@ module _ (t : List ℕ) (x : Ctx) (ip exit : ℕ) (s₀ : State) where
     pub few : left ≤ 34
     pub on : loopOf (chunkIn t x) ip exit (stateOf (x .locals) s₀) (sheetsOf h₀ b₀) ≡ passes body lost ip left (stateOf (x .locals) head) (sheetsOf h b)
 
-  pub passing-start : (h b : List ℕ) → x .locals ≡ localsAt t (x .chunk) → x .locals ≤ 32 → Passing h b h b s₀ (x .locals + 2)
+  pub passing-start : (head : State) → head .height ≡ s₀ .height → stateOf (x .locals) head ≡ stateOf (x .locals) s₀ → (h b : List ℕ) → x .locals ≡ localsAt t (x .chunk) → x .locals ≤ 32 →
+      Passing h b h b head (x .locals + 2)
   unfolding loopOf
-  passing-start h b e low =
+  passing-start head g w h b e low =
       record {
         heights-same = refl;
         blinds-same = refl;
-        head-height = refl;
+        head-height = g;
         few = omega arith;
         on =
-            ap (λ (n : ℕ). passes body lost ip (n + 2) (stateOf (x .locals) s₀) (sheetsOf h b)) (chunk-locals t (x .chunk) ∙ sym e);
+            ap (λ (n : ℕ). passes body lost ip (n + 2) (stateOf (x .locals) s₀) (sheetsOf h b)) (chunk-locals t (x .chunk) ∙ sym e)
+            ∙ ap (λ (z : AnyState). passes body lost ip (x .locals + 2) z (sheetsOf h b)) (sym w);
       }
 
   module _ (h₀ b₀ h b : List ℕ) (head : State) (left : ℕ) (P : Passing h₀ b₀ h b head left) (o : OutcomeIn) (h′ b′ : List ℕ) (none-yet : BreaksIn) (starts : none-yet .pending ≡ Nothing)

@@ -41,8 +41,8 @@ module _ (t h b : List ℕ) (k : ℕ) (R : Roomy t h b k) (x : Ctx) (O : Of t k 
   pub locals-few : x .locals ≤ 32
   locals-few = omega (arith, O .locals, locals-low t k)
 
-  pub chunk-ready : (s : State) → s .height ≡ 0 → Ready t h b x 0 (x .count) 0 (s .height) (s .height)
-  chunk-ready s e =
+  pub chunk-ready : Ready t h b x 0 (x .count) 0 0 0
+  chunk-ready =
       record {
         placed =
             record {
