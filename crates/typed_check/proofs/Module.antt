@@ -26,7 +26,7 @@ use Rattle.answer.specs.declared.Refusal.{Refusal}
 use Rattle.answer.specs.Answer.{numbers}
 use Rattle.walk.specs.declared.Walk.{Walk}
 use Rattle.walk.specs.declared.Walk.the-variants as W
-use Rattle.walk.specs.Outcomes.{numbers as walk-numbers}
+use Rattle.blocks.specs.Outcomes.{numbers as walk-numbers}
 use Rattle.walk.specs.Ready.{Roomy, with-chunk, resultsOf}
 use Rattle.stretch.specs.Stretch.{sheetsOf}
 use Rattle.typed_check.specs.declared.Finding.{Finding}

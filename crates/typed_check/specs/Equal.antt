@@ -17,7 +17,7 @@ use Rattle.answer.specs.Answer.{numbers, answerOf}
 use Rattle.listing.specs.Answer.{Stands-in}
 use Rattle.walk.specs.declared.Walk.{Walk}
 use Rattle.walk.specs.declared.Walk.the-variants as W
-use Rattle.walk.specs.Outcomes.{numbers as walk-numbers}
+use Rattle.blocks.specs.Outcomes.{numbers as walk-numbers}
 use Rattle.walk.specs.Ready.{with-chunk}
 use Rattle.typed_check.specs.declared.Finding.{Finding}
 use Rattle.typed_check.specs.declared.Finding.the-variants.{Nothing, Refused}

@@ -17,8 +17,8 @@ ghost use Rattle.listing.specs.Answer.{Stands-in};
 ghost use Rattle.sheets.specs.Answer.{numbers as room-numbers};
 ghost use Rattle.nesting.specs.Answer.{numbers as nesting-numbers};
 ghost use Rattle.data_layout.specs.Answer.{numbers as layout-numbers};
-ghost use Rattle.apply.specs.Answers.{refusal as verdict-numbers};
-ghost use Rattle.walk.specs.Outcomes.{numbers as walk-numbers, values-of};
+ghost use Rattle.apply.specs.Answers.{refusal as verdict-numbers, values-of};
+ghost use Rattle.blocks.specs.Outcomes.{numbers as walk-numbers};
 ghost use Rattle.answer.specs.Answer.{numbers};
 ghost use Rattle.walk.specs.Ready.{with-chunk};
 ghost use Rattle.stretch.specs.Stretch.{sheetsOf};
@@ -113,18 +113,6 @@ fn of_instruction(chunk: usize, v: Verdict) -> Finding
             p as u64,
             o,
         )),
-        Verdict::BranchHeightMismatch(p, t, e) => Finding::Refused(Refusal::BranchHeightMismatch(
-            k,
-            p as u64,
-            t as u64,
-            e as u64,
-        )),
-        Verdict::LoopNotNeutral(p, e, x) => Finding::Refused(Refusal::LoopNotNeutral(
-            k,
-            p as u64,
-            e as u64,
-            x as u64,
-        )),
         Verdict::LoopFloorBreach(p, f, a, r) => Finding::Refused(Refusal::LoopFloorBreach(
             k,
             p as u64,
@@ -157,21 +145,21 @@ fn of_instruction(chunk: usize, v: Verdict) -> Finding
     }
 }
 
-fn of_refusal(chunk: usize, w: walk::Refusal) -> Finding
+fn of_refusal(chunk: usize, w: blocks::Refusal) -> Finding
     ensures { λ r. ⌜ found r ≡ if-any (with-chunk chunk (walk-numbers w)) ⌝ }
 {
     let k = chunk as u64;
     match w {
-        walk::Refusal::Instruction(v) => of_instruction(chunk, v),
-        walk::Refusal::BranchHeightMismatch(p, t, e) =>
+        blocks::Refusal::Instruction(v) => of_instruction(chunk, v),
+        blocks::Refusal::BranchHeightMismatch(p, t, e) =>
             Finding::Refused(Refusal::BranchHeightMismatch(k, p as u64, t as u64, e as u64)),
-        walk::Refusal::LoopNotNeutral(p, e, x) => Finding::Refused(Refusal::LoopNotNeutral(
+        blocks::Refusal::LoopNotNeutral(p, e, x) => Finding::Refused(Refusal::LoopNotNeutral(
             k,
             p as u64,
             e as u64,
             x as u64,
         )),
-        walk::Refusal::Misplaced(p) => Finding::Refused(Refusal::NotNested(k, p as u64)),
+        blocks::Refusal::Misplaced(p) => Finding::Refused(Refusal::NotNested(k, p as u64)),
     }
 }
 

@@ -1,8 +1,7 @@
 -- `typed_check::of_instruction` meets its contract. Assumes nothing.
 use mathlib.Core.Path.{refl}
 use Rattle.answer.specs.Answer.{numbers}
-use Rattle.apply.specs.Answers.{refusal as verdict-numbers}
-use Rattle.walk.specs.Outcomes.{values-of}
+use Rattle.apply.specs.Answers.{refusal as verdict-numbers, values-of}
 use Rattle.walk.specs.Ready.{with-chunk}
 use Rattle.typed_check.specs.Equal.{found, if-any}
 use Rattle.typed_check.proofs.Laws.{by-case}
@@ -12,131 +11,113 @@ use Rattle.typed_check.proofs.of_instruction.Tie as tie
 use Rattle.typed_check.proofs.of_instruction.Reads as reads
 use Rattle.typed_check.proofs.of_instruction.Lts as lts
 
--- src/lib.rt:97:28
+-- src/lib.rt:98:28
 enum-told : tie.Need-enum-told
 enum-told c = search needs
 
--- src/lib.rt:98:24
+-- src/lib.rt:99:24
 enum-known-v : tie.Need-enum-known-v
 enum-known-v c = search needs
 
--- src/lib.rt:99:33
+-- src/lib.rt:100:33
 enum-known-v-2 : tie.Need-enum-known-v-2
 enum-known-v-2 c = search needs
 
--- src/lib.rt:100:36
+-- src/lib.rt:101:36
 enum-known-v-3 : tie.Need-enum-known-v-3
 enum-known-v-3 c = search needs
 
--- src/lib.rt:107:36
+-- src/lib.rt:108:36
 enum-known-v-4 : tie.Need-enum-known-v-4
 enum-known-v-4 c = search needs
 
--- src/lib.rt:108:43
+-- src/lib.rt:109:43
 enum-known-v-5 : tie.Need-enum-known-v-5
 enum-known-v-5 c = search needs
 
--- src/lib.rt:110:36
+-- src/lib.rt:111:36
 enum-known-v-6 : tie.Need-enum-known-v-6
 enum-known-v-6 c = search needs
 
--- src/lib.rt:115:39
+-- src/lib.rt:116:34
 enum-known-v-7 : tie.Need-enum-known-v-7
 enum-known-v-7 c = search needs
 
--- src/lib.rt:121:33
+-- src/lib.rt:123:36
 enum-known-v-8 : tie.Need-enum-known-v-8
 enum-known-v-8 c = search needs
 
--- src/lib.rt:127:34
+-- src/lib.rt:128:34
 enum-known-v-9 : tie.Need-enum-known-v-9
 enum-known-v-9 c = search needs
 
--- src/lib.rt:134:36
+-- src/lib.rt:134:38
 enum-known-v-10 : tie.Need-enum-known-v-10
 enum-known-v-10 c = search needs
 
--- src/lib.rt:139:34
+-- src/lib.rt:140:39
 enum-known-v-11 : tie.Need-enum-known-v-11
 enum-known-v-11 c = search needs
 
--- src/lib.rt:145:38
-enum-known-v-12 : tie.Need-enum-known-v-12
-enum-known-v-12 c = search needs
-
--- src/lib.rt:151:39
-enum-known-v-13 : tie.Need-enum-known-v-13
-enum-known-v-13 c = search needs
-
--- src/lib.rt:92:1
+-- src/lib.rt:93:1
 returns : tie.Need-returns
 unfolding found numbers verdict-numbers values-of with-chunk if-any
 returns c = by-case (λ v. if-any (with-chunk (c .before .before .args .chunk) (values-of (verdict-numbers v)))) _ _ (c .enum-told .given .1) refl
 
--- src/lib.rt:92:1
+-- src/lib.rt:93:1
 returns-2 : tie.Need-returns-2
 unfolding found numbers verdict-numbers values-of with-chunk if-any
 returns-2 c = by-case (λ v. if-any (with-chunk (c .before .before .before .args .chunk) (values-of (verdict-numbers v)))) _ _ (c .before .v .given .1) refl
 
--- src/lib.rt:92:1
+-- src/lib.rt:93:1
 returns-3 : tie.Need-returns-3
 unfolding found numbers verdict-numbers values-of with-chunk if-any
 returns-3 c = by-case (λ v. if-any (with-chunk (c .before .before .before .args .chunk) (values-of (verdict-numbers v)))) _ _ (c .before .v2 .given .1) refl
 
--- src/lib.rt:92:1
+-- src/lib.rt:93:1
 returns-4 : tie.Need-returns-4
 unfolding found numbers verdict-numbers values-of with-chunk if-any
 returns-4 c = by-case (λ v. if-any (with-chunk (c .before .before .before .args .chunk) (values-of (verdict-numbers v)))) _ _ (c .before .v3 .given .1) refl
 
--- src/lib.rt:92:1
+-- src/lib.rt:93:1
 returns-5 : tie.Need-returns-5
 unfolding found numbers verdict-numbers values-of with-chunk if-any
 returns-5 c = by-case (λ v. if-any (with-chunk (c .before .before .before .args .chunk) (values-of (verdict-numbers v)))) _ _ (c .before .v4 .given .1) refl
 
--- src/lib.rt:92:1
+-- src/lib.rt:93:1
 returns-6 : tie.Need-returns-6
 unfolding found numbers verdict-numbers values-of with-chunk if-any
 returns-6 c = by-case (λ v. if-any (with-chunk (c .before .before .before .args .chunk) (values-of (verdict-numbers v)))) _ _ (c .before .v5 .given .1) refl
 
--- src/lib.rt:92:1
+-- src/lib.rt:93:1
 returns-7 : tie.Need-returns-7
 unfolding found numbers verdict-numbers values-of with-chunk if-any
 returns-7 c = by-case (λ v. if-any (with-chunk (c .before .before .before .args .chunk) (values-of (verdict-numbers v)))) _ _ (c .before .v6 .given .1) refl
 
--- src/lib.rt:92:1
+-- src/lib.rt:93:1
 returns-8 : tie.Need-returns-8
 unfolding found numbers verdict-numbers values-of with-chunk if-any
 returns-8 c = by-case (λ v. if-any (with-chunk (c .before .before .before .args .chunk) (values-of (verdict-numbers v)))) _ _ (c .before .v7 .given .1) refl
 
--- src/lib.rt:92:1
+-- src/lib.rt:93:1
 returns-9 : tie.Need-returns-9
 unfolding found numbers verdict-numbers values-of with-chunk if-any
 returns-9 c = by-case (λ v. if-any (with-chunk (c .before .before .before .args .chunk) (values-of (verdict-numbers v)))) _ _ (c .before .v8 .given .1) refl
 
--- src/lib.rt:92:1
+-- src/lib.rt:93:1
 returns-10 : tie.Need-returns-10
 unfolding found numbers verdict-numbers values-of with-chunk if-any
 returns-10 c = by-case (λ v. if-any (with-chunk (c .before .before .before .args .chunk) (values-of (verdict-numbers v)))) _ _ (c .before .v9 .given .1) refl
 
--- src/lib.rt:92:1
+-- src/lib.rt:93:1
 returns-11 : tie.Need-returns-11
 unfolding found numbers verdict-numbers values-of with-chunk if-any
 returns-11 c = by-case (λ v. if-any (with-chunk (c .before .before .before .args .chunk) (values-of (verdict-numbers v)))) _ _ (c .before .v10 .given .1) refl
 
--- src/lib.rt:92:1
+-- src/lib.rt:93:1
 returns-12 : tie.Need-returns-12
 unfolding found numbers verdict-numbers values-of with-chunk if-any
 returns-12 c = by-case (λ v. if-any (with-chunk (c .before .before .before .args .chunk) (values-of (verdict-numbers v)))) _ _ (c .before .v11 .given .1) refl
-
--- src/lib.rt:92:1
-returns-13 : tie.Need-returns-13
-unfolding found numbers verdict-numbers values-of with-chunk if-any
-returns-13 c = by-case (λ v. if-any (with-chunk (c .before .before .before .args .chunk) (values-of (verdict-numbers v)))) _ _ (c .before .v12 .given .1) refl
-
--- src/lib.rt:92:1
-returns-14 : tie.Need-returns-14
-unfolding found numbers verdict-numbers values-of with-chunk if-any
-returns-14 c = by-case (λ v. if-any (with-chunk (c .before .before .before .args .chunk) (values-of (verdict-numbers v)))) _ _ (c .before .v13 .given .1) refl
 
 pub of-instruction-spec : {M : Type 1} → statement M
 of-instruction-spec =
@@ -154,8 +135,6 @@ of-instruction-spec =
     enum-known-v-9
     enum-known-v-10
     enum-known-v-11
-    enum-known-v-12
-    enum-known-v-13
     returns
     returns-2
     returns-3
@@ -167,6 +146,4 @@ of-instruction-spec =
     returns-9
     returns-10
     returns-11
-    returns-12
-    returns-13
-    returns-14)
+    returns-12)

@@ -1,7 +1,7 @@
 -- `typed_check::of_refusal` meets its contract. Assumes nothing.
 use mathlib.Core.Path.{refl}
 use Rattle.answer.specs.Answer.{numbers}
-use Rattle.walk.specs.Outcomes.{numbers as walk-numbers}
+use Rattle.blocks.specs.Outcomes.{numbers as walk-numbers}
 use Rattle.walk.specs.Ready.{with-chunk}
 use Rattle.typed_check.specs.Equal.{found, if-any}
 use Rattle.typed_check.proofs.Laws.{by-case}
