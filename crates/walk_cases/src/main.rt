@@ -1,12 +1,15 @@
 // Walks a chunk with a loop, and then makes the last pass over that loop alone: no listing brings the walk to a last pass. The loop keeps the shape of local 0
 // and changes that of local 1. The walk needs two passes and reads local 0 plainly in both; the last pass forgets both locals, so its read is blind.
+use apply::Ctx;
+use blocks::Flow;
+use blocks::Leaving;
 use libc::STDOUT_FILENO;
 use listing::Reading;
 use nesting::Nesting;
-use walk::Flow;
-use walk::Leaving;
 ghost use mathlib.Core.Path.{_≡_};
-ghost use Prim.Native.Nat.{_≤_};
+ghost use Prim.Native.Nat.{_+_, _≤_, _<_};
+ghost use Rattle.definition.specs.Instructions.{control, loopTo};
+ghost use Rattle.blocks.specs.Visits.{Placed, instrIn};
 ghost use lib.ListN.{length};
 ghost use Rattle.walk.specs.Ready.{Roomy};
 
@@ -48,6 +51,45 @@ fn show_walk(t: &[u64], heights: &mut [u8], blinds: &mut [u8], n: usize)
     print_sheet(b"blinds", blinds, n);
 }
 
+// The last pass over the loop at ip, from the state in which its chunk begins.
+fn last_pass(
+    t: &[u64],
+    heights: &mut [u8],
+    blinds: &mut [u8],
+    x: Ctx,
+    ip: usize,
+    exit: usize,
+) -> Leaving
+    requires { ⌜ Placed (now t) (now heights) (now blinds) x ⌝ }
+    requires { ⌜ (ip + 1 < exit) × (exit ≤ x .count) × (control (instrIn (now t) x ip) ≡ loopTo exit) ⌝ }
+{
+    let mut slots = [0u64; 96];
+    let mut places = [0u32; 1536];
+    let mut head = [0u64; 96];
+    let mut texts = [0u32; 1536];
+    let mut broken = [0u64; 96];
+    let mut held = [0u32; 1536];
+    blocks::start_locals(t, &mut head, &mut texts, x);
+    let l = walk::last_pass(
+        t,
+        heights,
+        blinds,
+        &mut slots,
+        &mut places,
+        &mut broken,
+        &mut held,
+        x,
+        &mut head,
+        &mut texts,
+        ip,
+        exit,
+        0,
+        0,
+    );
+    let f = l.leaving;
+    f
+}
+
 // The last pass over the loop at ip of chunk 0.
 fn show_last(t: &[u64], heights: &mut [u8], blinds: &mut [u8], n: usize, ip: usize)
     requires { ⌜ Roomy (now t) (now heights) (now blinds) 0 ⌝ }
@@ -72,9 +114,7 @@ fn show_last(t: &[u64], heights: &mut [u8], blinds: &mut [u8], n: usize, ip: usi
     if count < exit {
         return;
     }
-    let s = walk::start_state(t, x);
-    let l = walk::last_pass(t, heights, blinds, x, ip, exit, 0, s);
-    let f = l.leaving;
+    let f = last_pass(t, heights, blinds, x, ip, exit);
     match f {
         Leaving::Stopped(_) => print(b"last pass refused\n"),
         Leaving::After => print(b"last pass made\n"),
