@@ -18,6 +18,8 @@ extern "C" {
 
 /* The words of an answer. */
 #define STAGECHECK_ANSWER_WORDS 8
+/* The words of the tables, 174 KiB. */
+#define STAGECHECK_TABLE_WORDS 22232
 /* The most bytes of a listing; a longer one is refused with 2, limit 1. */
 #define STAGECHECK_MOST_BYTES 65536
 /* The most instructions of a listing: sheets of so many entries are never too short. */
@@ -136,6 +138,20 @@ size_t stagecheck_check(const uint8_t *listing, size_t listing_length,
                         uint8_t *heights, size_t heights_length,
                         uint8_t *blinds, size_t blinds_length,
                         uint64_t *answer);
+
+/* The same with tables that the caller lends, in which the call keeps what it reads. stagecheck_check has them on its
+ * stack and sets them to zero first; for a short listing that is most of its time.
+ *
+ * tables                     room for STAGECHECK_TABLE_WORDS words, aligned as uint64_t is. Whatever they hold is of
+ *                            no account; what they hold after the call is not promised.
+ *
+ * What is said of `answer` above, of pointers and of overlapping, holds of `tables` too.
+ */
+size_t stagecheck_check_in(const uint8_t *listing, size_t listing_length,
+                           uint64_t *tables,
+                           uint8_t *heights, size_t heights_length,
+                           uint8_t *blinds, size_t blinds_length,
+                           uint64_t *answer);
 
 #ifdef __cplusplus
 }

@@ -19,18 +19,28 @@ const LEAST_ROUND: u64 = 8_000_000;
 
 // ── What is measured ─────────────────────────────────────────────────────────────────────
 
-/// A call of the static library with both sheets of the greatest length.
+/// A call of the static library with both sheets of the greatest length, and with lent tables or without.
 struct Ours {
+    tables: Box<[u64; stagecheck::TABLE_WORDS]>,
     heights: Vec<u8>,
     blinds: Vec<u8>,
 }
 
 impl Ours {
     fn new() -> Ours {
-        Ours { heights: vec![0; MAX_OPS], blinds: vec![0; MAX_OPS] }
+        let tables = vec![0; stagecheck::TABLE_WORDS].into_boxed_slice().try_into().expect("it has so many words");
+        Ours { tables, heights: vec![0; MAX_OPS], blinds: vec![0; MAX_OPS] }
     }
 
+    /// With the tables lent, as the call before left them.
     fn check(&mut self, bytes: &[u8]) -> [u64; stagecheck::ANSWER_WORDS] {
+        let mut answer = [0; stagecheck::ANSWER_WORDS];
+        stagecheck::check_in(black_box(bytes), &mut self.tables, &mut self.heights, &mut self.blinds, &mut answer);
+        answer
+    }
+
+    /// With tables of the call's own, on its stack.
+    fn check_alone(&mut self, bytes: &[u8]) -> [u64; stagecheck::ANSWER_WORDS] {
         let mut answer = [0; stagecheck::ANSWER_WORDS];
         stagecheck::check(black_box(bytes), &mut self.heights, &mut self.blinds, &mut answer);
         answer
@@ -84,6 +94,7 @@ fn agree(ours: &mut Ours, bytes: &[u8]) {
     let mut words = answer::answer(bytes).words().expect("an answer that is compared");
     words.resize(stagecheck::ANSWER_WORDS, 0);
     assert_eq!(ours.check(bytes)[..], words, "both answer alike");
+    assert_eq!(ours.check_alone(bytes)[..], words, "both answer alike");
 }
 
 // ── Measuring ────────────────────────────────────────────────────────────────────────────
@@ -140,26 +151,28 @@ fn repeats(measured: &mut Measured) -> u64 {
 struct Times {
     our_reading: Option<f64>,
     our_check: f64,
+    check_alone: f64,
     rust_check: Option<f64>,
     rust_with_reader: f64,
-    /// The greatest of the medians' excess over the least, of all four.
+    /// The greatest of the medians' excess over the least, of all.
     spread: f64,
 }
 
-/// Measures a class. In each round all four measurements take their turn.
+/// Measures a class. In each round all measurements take their turn.
 fn measure(class: &Prepared, count: usize) -> Times {
-    let (mut for_reading, mut for_check) = (Ours::new(), Ours::new());
-    let mut all: [Measured; 4] = [
+    let (mut for_reading, mut for_check, mut alone) = (Ours::new(), Ours::new(), Ours::new());
+    let mut all: [Measured; 5] = [
         over(&class.damaged, |bytes| for_reading.check(bytes)),
         over(&class.bytes, |bytes| for_check.check(bytes)),
+        over(&class.bytes, |bytes| alone.check_alone(bytes)),
         over(&class.read, rust_check),
         over(&class.bytes, |bytes| rust_with_reader(bytes)),
     ];
-    let is_measured = [!class.damaged.is_empty(), true, !class.read.is_empty(), true];
-    let mut rounds: [Vec<f64>; 4] = Default::default();
-    let repeated: Vec<u64> = (0..4).map(|at| if is_measured[at] { repeats(&mut all[at]) } else { 0 }).collect();
+    let is_measured = [!class.damaged.is_empty(), true, true, !class.read.is_empty(), true];
+    let mut rounds: [Vec<f64>; 5] = Default::default();
+    let repeated: Vec<u64> = (0..5).map(|at| if is_measured[at] { repeats(&mut all[at]) } else { 0 }).collect();
     for _ in 0..count {
-        for at in (0..4).filter(|at| is_measured[*at]) {
+        for at in (0..5).filter(|at| is_measured[*at]) {
             let calls = repeated[at] * class.bytes.len() as u64;
             rounds[at].push(nanoseconds(&mut all[at], repeated[at]) as f64 / calls as f64 / 1_000.0);
         }
@@ -170,8 +183,9 @@ fn measure(class: &Prepared, count: usize) -> Times {
     Times {
         our_reading: least(0),
         our_check: least(1).expect("it is measured"),
-        rust_check: least(2),
-        rust_with_reader: least(3).expect("it is measured"),
+        check_alone: least(2).expect("it is measured"),
+        rust_check: least(3),
+        rust_with_reader: least(4).expect("it is measured"),
         spread: excess.fold(0.0, f64::max),
     }
 }
@@ -196,15 +210,17 @@ fn row(name: &str, listings: Vec<Vec<u8>>, rounds: usize) -> Times {
     let class = prepare(listings);
     let times = measure(&class, rounds);
     println!(
-        "| {name:<24} | {:>8} | {:>12} | {:>6} | {:>11} | {:>10} | {:>10} | {:>11} | {:>6.1} | {:>5.0}% |",
+        "| {name:<24} | {:>8} | {:>12} | {:>6} | {:>11} | {:>10} | {:>10} | {:>10} | {:>11} | {:>6.1} | {:>6.1} | {:>5.0}% |",
         class.bytes.len(),
         median(class.bytes.iter().map(|bytes| instructions(bytes)).collect()),
         median(class.bytes.iter().map(Vec::len).collect()),
         microseconds(times.our_reading),
         microseconds(Some(times.our_check)),
+        microseconds(Some(times.check_alone)),
         microseconds(times.rust_check),
         microseconds(Some(times.rust_with_reader)),
         times.our_check / times.rust_with_reader,
+        times.check_alone / times.rust_with_reader,
         times.spread * 100.0,
     );
     times
@@ -212,19 +228,21 @@ fn row(name: &str, listings: Vec<Vec<u8>>, rounds: usize) -> Times {
 
 fn head() {
     println!(
-        "| {:<24} | {:>8} | {:>12} | {:>6} | {:>11} | {:>10} | {:>10} | {:>11} | {:>6} | {:>6} |",
+        "| {:<24} | {:>8} | {:>12} | {:>6} | {:>11} | {:>10} | {:>10} | {:>10} | {:>11} | {:>6} | {:>6} | {:>6} |",
         "class",
         "listings",
         "instructions",
         "bytes",
         "our reading",
         "our check",
+        "own tables",
         "Rust check",
         "Rust + read",
         "ratio",
+        "own t.",
         "spread"
     );
-    println!("|---|---:|---:|---:|---:|---:|---:|---:|---:|---:|");
+    println!("|---|---:|---:|---:|---:|---:|---:|---:|---:|---:|---:|---:|");
 }
 
 /// Rows of growing listings, then how the times grow from one to the next.
