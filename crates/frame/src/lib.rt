@@ -2,6 +2,7 @@
 // in place.
 use shapes::Built;
 use shapes::Packed;
+use shapes::Places;
 use shapes::Shape;
 use shapes::Value;
 use value_layout::Widths;
@@ -222,8 +223,12 @@ fn copy_slot(
     requires { ⌜ Long (now slots) (now places) × Long (now others) (now held) × (i < 96) ⌝ }
     ensures { λ r. ⌜ Long (now (slots .exit)) (now (places .exit)) × ((h : ℕ) → Written (at h (now (slots .entry)) (now (places .entry))) i (valueAt (now (others .entry)) (now (held .entry)) i) (at h (now (slots .exit)) (now (places .exit)))) ⌝ }
 {
-    let v = value_at(others, held, i);
-    write(slots, places, i, v);
+    let w = others[i];
+    slots[i] = w;
+    let slot = slot_in(w);
+    let n = shapes::known_places(slot.known);
+    let q = cut(held, i * 16, n);
+    put(places, i * 16, q, n);
 }
 
 // The slots from lo up to hi become those of another state.
@@ -462,11 +467,12 @@ pub fn built_text_layout(
 {
     let lo = height - n;
     let mut at: u32 = 0;
-    let mut out = shapes::no_places();
+    let mut held = [0u32; 16];
+    let mut count: u8 = 0;
     let mut i = 0;
     while i < n {
         let v = value_at(slots, places, lo + i);
-        let t = out.add_text(at, v);
+        let t = shapes::add_text(&mut held, count, at, v);
         let shape = v.shape;
         let p = shape.packed_size(w);
         if t.open {
@@ -475,10 +481,13 @@ pub fn built_text_layout(
         let Packed::Bytes(b) = p else {
             return shapes::open_layout();
         };
-        let q = t.places;
-        out = q;
+        count = t.count;
         at = shapes::saturating_add(at, b);
         i += 1;
     }
-    out.layout()
+    let all = Places {
+        count: count,
+        at: held,
+    };
+    all.layout()
 }

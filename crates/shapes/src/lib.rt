@@ -5,7 +5,7 @@ ghost use mathlib.Core.Bool.{Bool, _&&_};
 ghost use mathlib.Core.List.{List, _∷_, _++_, []};
 ghost use mathlib.Core.Option.{Option, none, some};
 ghost use Prim.Native.Nat.{ℕ, _+_, _*_, _-_, _≤_, _<_};
-ghost use lib.ListN.{take};
+ghost use lib.ListN.{length, take};
 ghost use lib.Dec.{leb, ltb};
 ghost use Rattle.definition.specs.Basics.{saturating-add, is-member};
 ghost use Rattle.definition.specs.Shapes.{unknown, scalar, composite, same-text, same-shape, join};
@@ -144,7 +144,7 @@ pub struct Places {
     pub at: [u32; 16],
 }
 
-pub fn no_places() -> Places
+fn no_places() -> Places
     ensures { λ r. ⌜ Holds (r .count) (r .at) [] ⌝ }
 {
     Places {
@@ -186,72 +186,85 @@ impl Places {
         }
         self.add(o - at)
     }
-
-    // The first n of ps more, each moved by `by`.
-    fn add_all(self, n: u8, ps: [u32; 16], by: u32) -> Places
-        requires { ⌜ (self .count ≤ 17) × (n ≤ 16) ⌝ }
-        ensures { λ r. ⌜ (r .count ≤ 17) × ((l : List ℕ) → Holds (self .count) (self .at) l → Holds (r .count) (r .at) (l ++ shift by (take n ps))) ⌝ }
-    {
-        let mut out = self;
-        let m = n as usize;
-        let mut i = 0;
-        while i < m {
-            let o = saturating_add(by, ps[i]);
-            out = out.add(o);
-            i += 1;
-        }
-        out
-    }
-
-    // The places of one element at `at` more.
-    pub fn add_text(self, at: u32, v: Value) -> Taken
-        requires { ⌜ self .count ≤ 17 ⌝ }
-        ensures { λ r. ⌜ Took at (valueOf v) self (r .places) (r .open) ⌝ }
-    {
-        let shape = v.shape;
-        match shape {
-            Shape::Unknown => Taken {
-                open: true,
-                places: self,
-            },
-            Shape::Scalar(k) => {
-                if k == 6 {
-                    let p = self.add(at);
-                    Taken {
-                        open: false,
-                        places: p,
-                    }
-                } else {
-                    Taken {
-                        open: false,
-                        places: self,
-                    }
-                }
-            }
-            Shape::Composite(_, _) => {
-                let n = v.known;
-                if 16 < n {
-                    Taken {
-                        open: true,
-                        places: self,
-                    }
-                } else {
-                    let q = v.places;
-                    let p = self.add_all(n, q, at);
-                    Taken {
-                        open: false,
-                        places: p,
-                    }
-                }
-            }
-        }
-    }
 }
 
-// The places after one element more; open where that element's are unknown.
-pub struct Taken {
+// One place more in lent places of which `count` are held, 17 for more than sixteen; gives the count after.
+fn add_place(held: &mut [u32; 16], count: u8, o: u32) -> u8
+    requires { ⌜ (length (now held) ≡ 16) × (count ≤ 17) ⌝ }
+    ensures { λ r. ⌜ (length (now (held .exit)) ≡ 16) × (r ≤ 17) × ((l : List ℕ) → Holds count (now (held .entry)) l → Holds r (now (held .exit)) (l ++ (o ∷ []))) ⌝ }
+{
+    if 16 <= count {
+        return 17;
+    }
+    let i = count as usize;
+    held[i] = o;
+    count + 1
+}
+
+// The first n of ps more, each moved by `by`.
+fn add_places(held: &mut [u32; 16], count: u8, n: u8, ps: [u32; 16], by: u32) -> u8
+    requires { ⌜ (length (now held) ≡ 16) × (count ≤ 17) × (n ≤ 16) ⌝ }
+    ensures { λ r. ⌜ (length (now (held .exit)) ≡ 16) × (r ≤ 17) × ((l : List ℕ) → Holds count (now (held .entry)) l → Holds r (now (held .exit)) (l ++ shift by (take n ps))) ⌝ }
+{
+    let mut k = count;
+    let m = n as usize;
+    let mut i = 0;
+    while i < m {
+        let o = saturating_add(by, ps[i]);
+        k = add_place(held, k, o);
+        i += 1;
+    }
+    k
+}
+
+// How many places are held after one element more; open where that element's are unknown.
+pub struct Added {
     pub open: bool,
-    pub places: Places,
+    pub count: u8,
+}
+
+// The places of one element at `at` more.
+pub fn add_text(held: &mut [u32; 16], count: u8, at: u32, v: Value) -> Added
+    requires { ⌜ (length (now held) ≡ 16) × (count ≤ 17) ⌝ }
+    ensures { λ r. ⌜ (length (now (held .exit)) ≡ 16) × Took at (valueOf v) (record { count = count; at = now (held .entry) }) (record { count = r .count; at = now (held .exit) }) (r .open) ⌝ }
+{
+    let shape = v.shape;
+    match shape {
+        Shape::Unknown => Added {
+            open: true,
+            count: count,
+        },
+        Shape::Scalar(k) => {
+            if k == 6 {
+                let n = add_place(held, count, at);
+                Added {
+                    open: false,
+                    count: n,
+                }
+            } else {
+                Added {
+                    open: false,
+                    count: count,
+                }
+            }
+        }
+        Shape::Composite(_, _) => {
+            let n = v.known;
+            if 16 < n {
+                Added {
+                    open: true,
+                    count: count,
+                }
+            } else {
+                let q = v.places;
+                let m = add_places(held, count, n, q, at);
+                Added {
+                    open: false,
+                    count: m,
+                }
+            }
+        }
+    }
 }
 
 // Those of the first n places of ps that lie in the size bytes from `at` on, counted from there.
