@@ -290,8 +290,19 @@ module _ {M : Type 1} (𝓤 : URA M) (H : Heap 𝓤) (A : Atoms 𝓤) (W : Given
       (are .1 .0) (are .1 .1 .0 .0 .1) (are .1 .1 .1 .0 .0 .1) (are .1 .1 .1 .1 .0) (are .1 .1 .1 .1 .1 .0 .1) (are .1 .1 .1 .1 .1 .1 .0 .1) (are .1 .1 .1 .1 .1 .1 .1 .0 .1) (asked .0) (asked .1, asked .2, asked .3, asked .4, asked .5, asked .6, asked .7) C Λ fm known))
 
   goes : AllGo 𝓤 H A W 5 (step-lent.signature .params) (step-lent.ended .kept) stayed
-  goes = (goes-ref 𝓤 H A W 5 0 tt StateS, (goes-none-slice 𝓤 H A W 5 (2 ∷ []) tt (plain (λ _. u64)) yes, (goes-gave-slice 𝓤 H A W 5 3 tt (plain (λ _. u8)), (goes-gave-slice 𝓤 H A W 5 4 tt (plain (λ _. u8)),
-      (goes-none 𝓤 H A W 5 (λ _. X.the-row) yes (λ κs x f. refl), (goes-none 𝓤 H A W 5 (λ _. usize) yes (λ κs x f. refl), (goes-none 𝓤 H A W 5 (λ _. usize) yes (λ κs x f. refl), (goes-none 𝓤 H A W 5 (λ _. usize) yes (λ κs x f. refl), tt))))))))
+  goes = (
+    goes-ref 𝓤 H A W 5 0 tt StateS,
+    (
+      goes-none-slice 𝓤 H A W 5 (2 ∷ []) tt (plain (λ _. u64)) yes,
+      (
+        goes-gave-slice 𝓤 H A W 5 3 tt (plain (λ _. u8)),
+        (
+          goes-gave-slice 𝓤 H A W 5 4 tt (plain (λ _. u8)),
+          (goes-none 𝓤 H A W 5 (λ _. X.the-row) yes (λ κs x f. refl), (goes-none 𝓤 H A W 5 (λ _. usize) yes (λ κs x f. refl), (goes-none 𝓤 H A W 5 (λ _. usize) yes (λ κs x f. refl), (goes-none 𝓤 H A W 5 (λ _. usize) yes (λ κs x f. refl), tt)))),
+        ),
+      ),
+    ),
+  )
 
 step-lent-meets : {M : Type 1} (𝓤 : URA M) (H : Heap 𝓤) (A : Atoms 𝓤) (W : Given 𝓤 H A) (at-mem : Memory → SProp 𝓤) (run : Routine → Fun 𝓤) (𝓣 : Tables 𝓤 H) → Triple 𝓤 (𝓣 .C #stretch·stretch) (Stretch 𝓤 H A at-mem run)
     → Meets 𝓤 H A step-lent.signature (WpFn 𝓤 H (𝓣 .C) (𝓣 .Λ) code.function) (step-lent.spec 𝓤 H A at-mem run)
