@@ -13,7 +13,7 @@ use base.Fml.{GName, Lft, Share, Fml, ftrue, fsep, flft, fdead, fres, flent, fat
 use prog.Memory.{Memory}
 use prog.Routine.{Routine}
 use prog.Wp.{Heap, Calls, Loops, WpFn, Tables}
-use ghost.Atoms.{Atoms, sem}
+use ghost.Atoms.{Atoms}
 use contract.Monad.{Fun, fact}
 use contract.Running.{givenOf, tables, tablesOf}
 use contract.BorrowLft.{⊑-refl}
