@@ -56,7 +56,7 @@ fn interp_region(
         let code = i.code;
         let a = i.a;
         if stretch::is_straight(code) {
-            let e = stretch::stretch(t, heights, blinds, slots, places, x, ip, end, floor, h);
+            let e = stretch::step(t, heights, blinds, slots, places, x, ip, end, floor, h);
             let v = e.verdict;
             if v.passed() {} else {
                 return Outcome {

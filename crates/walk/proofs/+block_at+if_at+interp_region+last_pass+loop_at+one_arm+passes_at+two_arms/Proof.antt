@@ -73,7 +73,7 @@ use Rattle.frame.proofs.covers_locals.Reads as covers-locals-reads
 use Rattle.frame.proofs.join_locals.Reads as join-locals-reads
 use Rattle.frame.proofs.same_stack.Reads as same-stack-reads
 use Rattle.stretch.proofs.is_straight.Reads as is-straight-reads
-use Rattle.stretch.proofs.stretch.Reads as stretch-reads
+use Rattle.stretch.proofs.step.Reads as step-reads
 use Rattle.walk.proofs.+block_at+if_at+interp_region+last_pass+loop_at+one_arm+passes_at+two_arms.{
   statement,
 }
@@ -619,8 +619,8 @@ interp-region-loop-holds : (t : ℕ) → interp-region-lts.Need-loop-holds (
   instr-at-reads.Learnt,
   is-straight-reads.Asked,
   is-straight-reads.Learnt,
-  stretch-reads.Asked,
-  stretch-reads.Learnt,
+  step-reads.Asked,
+  step-reads.Learnt,
   passed-reads.Asked,
   passed-reads.Learnt,
   block-at-below t,
@@ -634,8 +634,8 @@ interp-region-add-instr-at : (t : ℕ) → interp-region-lts.Need-add-instr-at (
   instr-at-reads.Learnt,
   is-straight-reads.Asked,
   is-straight-reads.Learnt,
-  stretch-reads.Asked,
-  stretch-reads.Learnt,
+  step-reads.Asked,
+  step-reads.Learnt,
   passed-reads.Asked,
   passed-reads.Learnt,
   block-at-below t,
@@ -649,8 +649,8 @@ interp-region-instr-at-requires : (t : ℕ) → interp-region-lts.Need-instr-at-
   instr-at-reads.Learnt,
   is-straight-reads.Asked,
   is-straight-reads.Learnt,
-  stretch-reads.Asked,
-  stretch-reads.Learnt,
+  step-reads.Asked,
+  step-reads.Learnt,
   passed-reads.Asked,
   passed-reads.Learnt,
   block-at-below t,
@@ -664,8 +664,8 @@ interp-region-is-straight-requires : (t : ℕ) → interp-region-lts.Need-is-str
   instr-at-reads.Learnt,
   is-straight-reads.Asked,
   is-straight-reads.Learnt,
-  stretch-reads.Asked,
-  stretch-reads.Learnt,
+  step-reads.Asked,
+  step-reads.Learnt,
   passed-reads.Asked,
   passed-reads.Learnt,
   block-at-below t,
@@ -674,19 +674,19 @@ interp-region-is-straight-requires : (t : ℕ) → interp-region-lts.Need-is-str
 interp-region-is-straight-requires t c κs = search needs
 
 -- src/lib.rt:59:17
-interp-region-stretch-requires : (t : ℕ) → interp-region-lts.Need-stretch-requires (
+interp-region-step-requires : (t : ℕ) → interp-region-lts.Need-step-requires (
   instr-at-reads.Asked,
   instr-at-reads.Learnt,
   is-straight-reads.Asked,
   is-straight-reads.Learnt,
-  stretch-reads.Asked,
-  stretch-reads.Learnt,
+  step-reads.Asked,
+  step-reads.Learnt,
   passed-reads.Asked,
   passed-reads.Learnt,
   block-at-below t,
   block-at.Post,
 ) (interp-region-at t) interp-region.Post interp-region-Inv-loop interp-region-μ-loop
-interp-region-stretch-requires t c κs = ((c .before .before .before .before .before .before .before .before .loop .inv .2) .ready .placed .of, ((c .before .before .before .before .before .before .before .before .loop .inv .2) .ready .placed .heights-long, (c .before .before .before .before .before .before .before .before .loop .inv .2) .ready .placed .blinds-long, c .before .before .before .before .before .before .before .before .loop .inv .0, omega (arith, c .before .before .before .before .before .before .before .loop-test .taken), Cycle.end-inside _ _ _ _ _ _ _ _ _ ((c .before .before .before .before .before .before .before .before .loop .inv .2) .ready), c .before .before .before .before .before .before .before .before .before .before .before .before .pre .1 .0 .floor-low, (c .before .before .before .before .before .before .before .before .loop .inv .2) .ready .height-low))
+interp-region-step-requires t c κs = ((c .before .before .before .before .before .before .before .before .loop .inv .2) .ready .placed .of, ((c .before .before .before .before .before .before .before .before .loop .inv .2) .ready .placed .heights-long, (c .before .before .before .before .before .before .before .before .loop .inv .2) .ready .placed .blinds-long, c .before .before .before .before .before .before .before .before .loop .inv .0, omega (arith, c .before .before .before .before .before .before .before .loop-test .taken), Cycle.end-inside _ _ _ _ _ _ _ _ _ ((c .before .before .before .before .before .before .before .before .loop .inv .2) .ready), c .before .before .before .before .before .before .before .before .before .before .before .before .pre .1 .0 .floor-low, (c .before .before .before .before .before .before .before .before .loop .inv .2) .ready .height-low))
 
 -- src/lib.rt:61:16
 interp-region-passed-requires : (t : ℕ) → interp-region-lts.Need-passed-requires (
@@ -694,8 +694,8 @@ interp-region-passed-requires : (t : ℕ) → interp-region-lts.Need-passed-requ
   instr-at-reads.Learnt,
   is-straight-reads.Asked,
   is-straight-reads.Learnt,
-  stretch-reads.Asked,
-  stretch-reads.Learnt,
+  step-reads.Asked,
+  step-reads.Learnt,
   passed-reads.Asked,
   passed-reads.Learnt,
   block-at-below t,
@@ -709,8 +709,8 @@ interp-region-same-length : (t : ℕ) → interp-region-lts.Need-same-length (
   instr-at-reads.Learnt,
   is-straight-reads.Asked,
   is-straight-reads.Learnt,
-  stretch-reads.Asked,
-  stretch-reads.Learnt,
+  step-reads.Asked,
+  step-reads.Learnt,
   passed-reads.Asked,
   passed-reads.Learnt,
   block-at-below t,
@@ -724,8 +724,8 @@ interp-region-same-length-2 : (t : ℕ) → interp-region-lts.Need-same-length-2
   instr-at-reads.Learnt,
   is-straight-reads.Asked,
   is-straight-reads.Learnt,
-  stretch-reads.Asked,
-  stretch-reads.Learnt,
+  step-reads.Asked,
+  step-reads.Learnt,
   passed-reads.Asked,
   passed-reads.Learnt,
   block-at-below t,
@@ -739,14 +739,14 @@ interp-region-returns : (t : ℕ) → interp-region-lts.Need-returns (
   instr-at-reads.Learnt,
   is-straight-reads.Asked,
   is-straight-reads.Learnt,
-  stretch-reads.Asked,
-  stretch-reads.Learnt,
+  step-reads.Asked,
+  step-reads.Learnt,
   passed-reads.Asked,
   passed-reads.Learnt,
   block-at-below t,
   block-at.Post,
 ) (interp-region-at t) interp-region.Post interp-region-Inv-loop interp-region-μ-loop
-interp-region-returns t c = (c .before .before .before .before .before .before .stretch .ensures .0, c .before .before .before .before .before .before .before .before .before .before .before .before .before .before .before .loop .inv .1, Cycle.walking-refused (c .before .before .before .before .before .before .before .before .before .before .before .before .before .before .before .before .before .before .before .args .t .now) (c .before .before .before .before .before .before .before .before .before .before .before .before .before .before .before .before .before .before .before .args .heights .now) (c .before .before .before .before .before .before .before .before .before .before .before .before .before .before .before .before .before .before .before .args .blinds .now) (c .before .before .before .before .before .before .before .before .before .before .before .before .before .before .before .before .before .before .before .args .x) (c .before .before .before .before .before .before .before .before .before .before .before .before .before .before .before .before .before .before .before .args .start) (c .before .before .before .before .before .before .before .before .before .before .before .before .before .before .before .before .before .before .before .args .end) (c .before .before .before .before .before .before .before .before .before .before .before .before .before .before .before .before .before .before .before .args .floor) (at (c .before .before .before .before .before .before .before .before .before .before .before .before .before .before .before .before .before .before .before .args .height) (c .before .before .before .before .before .before .before .before .before .before .before .before .before .before .before .before .before .before .before .args .slots .now) (c .before .before .before .before .before .before .before .before .before .before .before .before .before .before .before .before .before .before .before .args .places .now)) (breaksIn (c .before .before .before .before .before .before .before .before .before .before .before .before .before .before .before .before .before .before .before .args .b) (c .before .before .before .before .before .before .before .before .before .before .before .before .before .before .before .before .before .before .before .args .broken .now) (c .before .before .before .before .before .before .before .before .before .before .before .before .before .before .before .before .before .before .before .args .held .now)) (c .before .before .before .before .before .before .before .before .before .before .before .before .before .before .before .loop .heights) (c .before .before .before .before .before .before .before .before .before .before .before .before .before .before .before .loop .blinds) (c .before .before .before .before .before .before .before .before .before .before .before .before .before .before .before .loop .ip) (at (c .before .before .before .before .before .before .before .before .before .before .before .before .before .before .before .loop .h) (c .before .before .before .before .before .before .before .before .before .before .before .before .before .before .before .loop .slots) (c .before .before .before .before .before .before .before .before .before .before .before .before .before .before .before .loop .places)) (breaksIn (c .before .before .before .before .before .before .before .before .before .before .before .before .before .before .before .loop .k) (c .before .before .before .before .before .before .before .before .before .before .before .before .before .before .before .loop .broken) (c .before .before .before .before .before .before .before .before .before .before .before .before .before .before .before .loop .held)) (c .before .before .before .before .before .before .before .before .before .before .before .before .before .before .before .loop .inv .2) (c .before .before .before .before .before .before .stretch .result) _ _ _ (c .before .before .before .before .before .before .stretch .ensures .1) (sym (c .before .passed .ensures) ∙ c .if2 .left) (record { flow = Refused (Instruction (c .before .before .before .before .before .before .stretch .result .verdict)); state = at (c .before .before .before .before .before .before .before .before .before .before .before .before .before .before .before .loop .h) (c .before .before .before .before .before .before .stretch .last .1 .1 .1 .0) (c .before .before .before .before .before .before .stretch .last .1 .1 .1 .1 .0); breaks = breaksIn (c .before .before .before .before .before .before .before .before .before .before .before .before .before .before .before .loop .k) (c .before .before .before .before .before .before .before .before .before .before .before .before .before .before .before .loop .broken) (c .before .before .before .before .before .before .before .before .before .before .before .before .before .before .before .loop .held) }) _ refl, ((c .before .before .before .before .before .before .before .before .before .before .before .before .before .before .before .loop .inv .2) .ready .height-low, (c .before .before .before .before .before .before .before .before .before .before .before .before .before .before .before .loop .inv .2) .ready .breaks-low))
+interp-region-returns t c = (c .before .before .before .before .before .before .step .ensures .0, c .before .before .before .before .before .before .before .before .before .before .before .before .before .before .before .loop .inv .1, Cycle.walking-refused (c .before .before .before .before .before .before .before .before .before .before .before .before .before .before .before .before .before .before .before .args .t .now) (c .before .before .before .before .before .before .before .before .before .before .before .before .before .before .before .before .before .before .before .args .heights .now) (c .before .before .before .before .before .before .before .before .before .before .before .before .before .before .before .before .before .before .before .args .blinds .now) (c .before .before .before .before .before .before .before .before .before .before .before .before .before .before .before .before .before .before .before .args .x) (c .before .before .before .before .before .before .before .before .before .before .before .before .before .before .before .before .before .before .before .args .start) (c .before .before .before .before .before .before .before .before .before .before .before .before .before .before .before .before .before .before .before .args .end) (c .before .before .before .before .before .before .before .before .before .before .before .before .before .before .before .before .before .before .before .args .floor) (at (c .before .before .before .before .before .before .before .before .before .before .before .before .before .before .before .before .before .before .before .args .height) (c .before .before .before .before .before .before .before .before .before .before .before .before .before .before .before .before .before .before .before .args .slots .now) (c .before .before .before .before .before .before .before .before .before .before .before .before .before .before .before .before .before .before .before .args .places .now)) (breaksIn (c .before .before .before .before .before .before .before .before .before .before .before .before .before .before .before .before .before .before .before .args .b) (c .before .before .before .before .before .before .before .before .before .before .before .before .before .before .before .before .before .before .before .args .broken .now) (c .before .before .before .before .before .before .before .before .before .before .before .before .before .before .before .before .before .before .before .args .held .now)) (c .before .before .before .before .before .before .before .before .before .before .before .before .before .before .before .loop .heights) (c .before .before .before .before .before .before .before .before .before .before .before .before .before .before .before .loop .blinds) (c .before .before .before .before .before .before .before .before .before .before .before .before .before .before .before .loop .ip) (at (c .before .before .before .before .before .before .before .before .before .before .before .before .before .before .before .loop .h) (c .before .before .before .before .before .before .before .before .before .before .before .before .before .before .before .loop .slots) (c .before .before .before .before .before .before .before .before .before .before .before .before .before .before .before .loop .places)) (breaksIn (c .before .before .before .before .before .before .before .before .before .before .before .before .before .before .before .loop .k) (c .before .before .before .before .before .before .before .before .before .before .before .before .before .before .before .loop .broken) (c .before .before .before .before .before .before .before .before .before .before .before .before .before .before .before .loop .held)) (c .before .before .before .before .before .before .before .before .before .before .before .before .before .before .before .loop .inv .2) (c .before .before .before .before .before .before .step .result) _ _ _ (c .before .before .before .before .before .before .step .ensures .1) (sym (c .before .passed .ensures) ∙ c .if2 .left) (record { flow = Refused (Instruction (c .before .before .before .before .before .before .step .result .verdict)); state = at (c .before .before .before .before .before .before .before .before .before .before .before .before .before .before .before .loop .h) (c .before .before .before .before .before .before .step .last .1 .1 .1 .0) (c .before .before .before .before .before .before .step .last .1 .1 .1 .1 .0); breaks = breaksIn (c .before .before .before .before .before .before .before .before .before .before .before .before .before .before .before .loop .k) (c .before .before .before .before .before .before .before .before .before .before .before .before .before .before .before .loop .broken) (c .before .before .before .before .before .before .before .before .before .before .before .before .before .before .before .loop .held) }) _ refl, ((c .before .before .before .before .before .before .before .before .before .before .before .before .before .before .before .loop .inv .2) .ready .height-low, (c .before .before .before .before .before .before .before .before .before .before .before .before .before .before .before .loop .inv .2) .ready .breaks-low))
 
 -- src/lib.rt:54:5
 interp-region-loop-less : (t : ℕ) → interp-region-lts.Need-loop-less (
@@ -754,14 +754,14 @@ interp-region-loop-less : (t : ℕ) → interp-region-lts.Need-loop-less (
   instr-at-reads.Learnt,
   is-straight-reads.Asked,
   is-straight-reads.Learnt,
-  stretch-reads.Asked,
-  stretch-reads.Learnt,
+  step-reads.Asked,
+  step-reads.Learnt,
   passed-reads.Asked,
   passed-reads.Learnt,
   block-at-below t,
   block-at.Post,
 ) (interp-region-at t) interp-region.Post interp-region-Inv-loop interp-region-μ-loop
-interp-region-loop-less t c = omega (arith, c .before .before .before .before .before .before .before .before .before .before .before .before .before .before .loop-test .taken, c .before .before .before .before .before .before .stretch .ensures .1 .moved (sym (c .before .passed .ensures) ∙ c .if2 .taken) (c .before .before .before .before .before .before .before .before .before .before .before .before .before .before .loop-test .taken) (Cycle.straight-here (c .before .before .before .before .before .before .before .before .before .before .before .before .before .before .before .before .before .before .before .args .t .now) (c .before .before .before .before .before .before .before .before .before .before .before .before .before .before .before .before .before .before .before .args .x) (c .before .before .before .before .before .before .before .before .before .before .before .before .before .before .before .loop .ip) _ (c .before .before .before .before .before .before .before .before .before .before .before .before .before .instr-at .ensures) _ (c .before .before .before .before .before .before .before .before .before .before .before .before .is-straight .ensures) (c .before .before .before .before .before .before .before .before .before .before .before .if1 .taken)), c .before .before .before .before .before .before .stretch .ensures .1 .to)
+interp-region-loop-less t c = omega (arith, c .before .before .before .before .before .before .before .before .before .before .before .before .before .before .loop-test .taken, c .before .before .before .before .before .before .step .ensures .1 .moved (sym (c .before .passed .ensures) ∙ c .if2 .taken) (c .before .before .before .before .before .before .before .before .before .before .before .before .before .before .loop-test .taken) (Cycle.straight-here (c .before .before .before .before .before .before .before .before .before .before .before .before .before .before .before .before .before .before .before .args .t .now) (c .before .before .before .before .before .before .before .before .before .before .before .before .before .before .before .before .before .before .before .args .x) (c .before .before .before .before .before .before .before .before .before .before .before .before .before .before .before .loop .ip) _ (c .before .before .before .before .before .before .before .before .before .before .before .before .before .instr-at .ensures) _ (c .before .before .before .before .before .before .before .before .before .before .before .before .is-straight .ensures) (c .before .before .before .before .before .before .before .before .before .before .before .if1 .taken)), c .before .before .before .before .before .before .step .ensures .1 .to)
 
 -- src/lib.rt:54:5
 interp-region-loop-again : (t : ℕ) → interp-region-lts.Need-loop-again (
@@ -769,14 +769,14 @@ interp-region-loop-again : (t : ℕ) → interp-region-lts.Need-loop-again (
   instr-at-reads.Learnt,
   is-straight-reads.Asked,
   is-straight-reads.Learnt,
-  stretch-reads.Asked,
-  stretch-reads.Learnt,
+  step-reads.Asked,
+  step-reads.Learnt,
   passed-reads.Asked,
   passed-reads.Learnt,
   block-at-below t,
   block-at.Post,
 ) (interp-region-at t) interp-region.Post interp-region-Inv-loop interp-region-μ-loop
-interp-region-loop-again t c = (c .before .before .before .before .before .before .stretch .ensures .0, c .before .before .before .before .before .before .before .before .before .before .before .before .before .before .before .loop .inv .1, Cycle.walking-ran (c .before .before .before .before .before .before .before .before .before .before .before .before .before .before .before .before .before .before .before .args .t .now) (c .before .before .before .before .before .before .before .before .before .before .before .before .before .before .before .before .before .before .before .args .heights .now) (c .before .before .before .before .before .before .before .before .before .before .before .before .before .before .before .before .before .before .before .args .blinds .now) (c .before .before .before .before .before .before .before .before .before .before .before .before .before .before .before .before .before .before .before .args .x) (c .before .before .before .before .before .before .before .before .before .before .before .before .before .before .before .before .before .before .before .args .start) (c .before .before .before .before .before .before .before .before .before .before .before .before .before .before .before .before .before .before .before .args .end) (c .before .before .before .before .before .before .before .before .before .before .before .before .before .before .before .before .before .before .before .args .floor) (at (c .before .before .before .before .before .before .before .before .before .before .before .before .before .before .before .before .before .before .before .args .height) (c .before .before .before .before .before .before .before .before .before .before .before .before .before .before .before .before .before .before .before .args .slots .now) (c .before .before .before .before .before .before .before .before .before .before .before .before .before .before .before .before .before .before .before .args .places .now)) (breaksIn (c .before .before .before .before .before .before .before .before .before .before .before .before .before .before .before .before .before .before .before .args .b) (c .before .before .before .before .before .before .before .before .before .before .before .before .before .before .before .before .before .before .before .args .broken .now) (c .before .before .before .before .before .before .before .before .before .before .before .before .before .before .before .before .before .before .before .args .held .now)) (c .before .before .before .before .before .before .before .before .before .before .before .before .before .before .before .loop .heights) (c .before .before .before .before .before .before .before .before .before .before .before .before .before .before .before .loop .blinds) (c .before .before .before .before .before .before .before .before .before .before .before .before .before .before .before .loop .ip) (at (c .before .before .before .before .before .before .before .before .before .before .before .before .before .before .before .loop .h) (c .before .before .before .before .before .before .before .before .before .before .before .before .before .before .before .loop .slots) (c .before .before .before .before .before .before .before .before .before .before .before .before .before .before .before .loop .places)) (breaksIn (c .before .before .before .before .before .before .before .before .before .before .before .before .before .before .before .loop .k) (c .before .before .before .before .before .before .before .before .before .before .before .before .before .before .before .loop .broken) (c .before .before .before .before .before .before .before .before .before .before .before .before .before .before .before .loop .held)) (c .before .before .before .before .before .before .before .before .before .before .before .before .before .before .before .loop .inv .2) (c .before .before .before .before .before .before .stretch .result) _ _ _ (c .before .before .before .before .before .before .stretch .ensures .1) (sym (c .before .passed .ensures) ∙ c .if2 .taken) (c .before .before .before .before .before .before .stretch .kept .1 .0) (c .before .before .before .before .before .before .stretch .kept .1 .1 .0))
+interp-region-loop-again t c = (c .before .before .before .before .before .before .step .ensures .0, c .before .before .before .before .before .before .before .before .before .before .before .before .before .before .before .loop .inv .1, Cycle.walking-ran (c .before .before .before .before .before .before .before .before .before .before .before .before .before .before .before .before .before .before .before .args .t .now) (c .before .before .before .before .before .before .before .before .before .before .before .before .before .before .before .before .before .before .before .args .heights .now) (c .before .before .before .before .before .before .before .before .before .before .before .before .before .before .before .before .before .before .before .args .blinds .now) (c .before .before .before .before .before .before .before .before .before .before .before .before .before .before .before .before .before .before .before .args .x) (c .before .before .before .before .before .before .before .before .before .before .before .before .before .before .before .before .before .before .before .args .start) (c .before .before .before .before .before .before .before .before .before .before .before .before .before .before .before .before .before .before .before .args .end) (c .before .before .before .before .before .before .before .before .before .before .before .before .before .before .before .before .before .before .before .args .floor) (at (c .before .before .before .before .before .before .before .before .before .before .before .before .before .before .before .before .before .before .before .args .height) (c .before .before .before .before .before .before .before .before .before .before .before .before .before .before .before .before .before .before .before .args .slots .now) (c .before .before .before .before .before .before .before .before .before .before .before .before .before .before .before .before .before .before .before .args .places .now)) (breaksIn (c .before .before .before .before .before .before .before .before .before .before .before .before .before .before .before .before .before .before .before .args .b) (c .before .before .before .before .before .before .before .before .before .before .before .before .before .before .before .before .before .before .before .args .broken .now) (c .before .before .before .before .before .before .before .before .before .before .before .before .before .before .before .before .before .before .before .args .held .now)) (c .before .before .before .before .before .before .before .before .before .before .before .before .before .before .before .loop .heights) (c .before .before .before .before .before .before .before .before .before .before .before .before .before .before .before .loop .blinds) (c .before .before .before .before .before .before .before .before .before .before .before .before .before .before .before .loop .ip) (at (c .before .before .before .before .before .before .before .before .before .before .before .before .before .before .before .loop .h) (c .before .before .before .before .before .before .before .before .before .before .before .before .before .before .before .loop .slots) (c .before .before .before .before .before .before .before .before .before .before .before .before .before .before .before .loop .places)) (breaksIn (c .before .before .before .before .before .before .before .before .before .before .before .before .before .before .before .loop .k) (c .before .before .before .before .before .before .before .before .before .before .before .before .before .before .before .loop .broken) (c .before .before .before .before .before .before .before .before .before .before .before .before .before .before .before .loop .held)) (c .before .before .before .before .before .before .before .before .before .before .before .before .before .before .before .loop .inv .2) (c .before .before .before .before .before .before .step .result) _ _ _ (c .before .before .before .before .before .before .step .ensures .1) (sym (c .before .passed .ensures) ∙ c .if2 .taken) (c .before .before .before .before .before .before .step .kept .1 .0) (c .before .before .before .before .before .before .step .kept .1 .1 .0))
 
 -- src/lib.rt:81:17
 interp-region-cast-block-at : (t : ℕ) → interp-region-lts.Need-cast-block-at (
@@ -784,8 +784,8 @@ interp-region-cast-block-at : (t : ℕ) → interp-region-lts.Need-cast-block-at
   instr-at-reads.Learnt,
   is-straight-reads.Asked,
   is-straight-reads.Learnt,
-  stretch-reads.Asked,
-  stretch-reads.Learnt,
+  step-reads.Asked,
+  step-reads.Learnt,
   passed-reads.Asked,
   passed-reads.Learnt,
   block-at-below t,
@@ -799,8 +799,8 @@ interp-region-block-at-requires : (t : ℕ) → interp-region-lts.Need-block-at-
   instr-at-reads.Learnt,
   is-straight-reads.Asked,
   is-straight-reads.Learnt,
-  stretch-reads.Asked,
-  stretch-reads.Learnt,
+  step-reads.Asked,
+  step-reads.Learnt,
   passed-reads.Asked,
   passed-reads.Learnt,
   block-at-below t,
@@ -813,8 +813,8 @@ interp-region-enum-told : (t : ℕ) → interp-region-lts.Need-enum-told (
   instr-at-reads.Learnt,
   is-straight-reads.Asked,
   is-straight-reads.Learnt,
-  stretch-reads.Asked,
-  stretch-reads.Learnt,
+  step-reads.Asked,
+  step-reads.Learnt,
   passed-reads.Asked,
   passed-reads.Learnt,
   block-at-below t,
@@ -828,8 +828,8 @@ interp-region-loop-less-2 : (t : ℕ) → interp-region-lts.Need-loop-less-2 (
   instr-at-reads.Learnt,
   is-straight-reads.Asked,
   is-straight-reads.Learnt,
-  stretch-reads.Asked,
-  stretch-reads.Learnt,
+  step-reads.Asked,
+  step-reads.Learnt,
   passed-reads.Asked,
   passed-reads.Learnt,
   block-at-below t,
@@ -843,8 +843,8 @@ interp-region-loop-again-2 : (t : ℕ) → interp-region-lts.Need-loop-again-2 (
   instr-at-reads.Learnt,
   is-straight-reads.Asked,
   is-straight-reads.Learnt,
-  stretch-reads.Asked,
-  stretch-reads.Learnt,
+  step-reads.Asked,
+  step-reads.Learnt,
   passed-reads.Asked,
   passed-reads.Learnt,
   block-at-below t,
@@ -858,8 +858,8 @@ interp-region-enum-told-2 : (t : ℕ) → interp-region-lts.Need-enum-told-2 (
   instr-at-reads.Learnt,
   is-straight-reads.Asked,
   is-straight-reads.Learnt,
-  stretch-reads.Asked,
-  stretch-reads.Learnt,
+  step-reads.Asked,
+  step-reads.Learnt,
   passed-reads.Asked,
   passed-reads.Learnt,
   block-at-below t,
@@ -873,8 +873,8 @@ interp-region-same-length-3 : (t : ℕ) → interp-region-lts.Need-same-length-3
   instr-at-reads.Learnt,
   is-straight-reads.Asked,
   is-straight-reads.Learnt,
-  stretch-reads.Asked,
-  stretch-reads.Learnt,
+  step-reads.Asked,
+  step-reads.Learnt,
   passed-reads.Asked,
   passed-reads.Learnt,
   block-at-below t,
@@ -888,8 +888,8 @@ interp-region-same-length-4 : (t : ℕ) → interp-region-lts.Need-same-length-4
   instr-at-reads.Learnt,
   is-straight-reads.Asked,
   is-straight-reads.Learnt,
-  stretch-reads.Asked,
-  stretch-reads.Learnt,
+  step-reads.Asked,
+  step-reads.Learnt,
   passed-reads.Asked,
   passed-reads.Learnt,
   block-at-below t,
@@ -903,8 +903,8 @@ interp-region-returns-2 : (t : ℕ) → interp-region-lts.Need-returns-2 (
   instr-at-reads.Learnt,
   is-straight-reads.Asked,
   is-straight-reads.Learnt,
-  stretch-reads.Asked,
-  stretch-reads.Learnt,
+  step-reads.Asked,
+  step-reads.Learnt,
   passed-reads.Asked,
   passed-reads.Learnt,
   block-at-below t,
@@ -918,8 +918,8 @@ interp-region-enum-told-3 : (t : ℕ) → interp-region-lts.Need-enum-told-3 (
   instr-at-reads.Learnt,
   is-straight-reads.Asked,
   is-straight-reads.Learnt,
-  stretch-reads.Asked,
-  stretch-reads.Learnt,
+  step-reads.Asked,
+  step-reads.Learnt,
   passed-reads.Asked,
   passed-reads.Learnt,
   block-at-below t,
@@ -933,8 +933,8 @@ interp-region-same-length-5 : (t : ℕ) → interp-region-lts.Need-same-length-5
   instr-at-reads.Learnt,
   is-straight-reads.Asked,
   is-straight-reads.Learnt,
-  stretch-reads.Asked,
-  stretch-reads.Learnt,
+  step-reads.Asked,
+  step-reads.Learnt,
   passed-reads.Asked,
   passed-reads.Learnt,
   block-at-below t,
@@ -948,8 +948,8 @@ interp-region-same-length-6 : (t : ℕ) → interp-region-lts.Need-same-length-6
   instr-at-reads.Learnt,
   is-straight-reads.Asked,
   is-straight-reads.Learnt,
-  stretch-reads.Asked,
-  stretch-reads.Learnt,
+  step-reads.Asked,
+  step-reads.Learnt,
   passed-reads.Asked,
   passed-reads.Learnt,
   block-at-below t,
@@ -963,8 +963,8 @@ interp-region-returns-3 : (t : ℕ) → interp-region-lts.Need-returns-3 (
   instr-at-reads.Learnt,
   is-straight-reads.Asked,
   is-straight-reads.Learnt,
-  stretch-reads.Asked,
-  stretch-reads.Learnt,
+  step-reads.Asked,
+  step-reads.Learnt,
   passed-reads.Asked,
   passed-reads.Learnt,
   block-at-below t,
@@ -978,8 +978,8 @@ interp-region-same-length-7 : (t : ℕ) → interp-region-lts.Need-same-length-7
   instr-at-reads.Learnt,
   is-straight-reads.Asked,
   is-straight-reads.Learnt,
-  stretch-reads.Asked,
-  stretch-reads.Learnt,
+  step-reads.Asked,
+  step-reads.Learnt,
   passed-reads.Asked,
   passed-reads.Learnt,
   block-at-below t,
@@ -993,8 +993,8 @@ interp-region-same-length-8 : (t : ℕ) → interp-region-lts.Need-same-length-8
   instr-at-reads.Learnt,
   is-straight-reads.Asked,
   is-straight-reads.Learnt,
-  stretch-reads.Asked,
-  stretch-reads.Learnt,
+  step-reads.Asked,
+  step-reads.Learnt,
   passed-reads.Asked,
   passed-reads.Learnt,
   block-at-below t,
@@ -1008,8 +1008,8 @@ interp-region-returns-4 : (t : ℕ) → interp-region-lts.Need-returns-4 (
   instr-at-reads.Learnt,
   is-straight-reads.Asked,
   is-straight-reads.Learnt,
-  stretch-reads.Asked,
-  stretch-reads.Learnt,
+  step-reads.Asked,
+  step-reads.Learnt,
   passed-reads.Asked,
   passed-reads.Learnt,
   block-at-below t,
@@ -2463,8 +2463,8 @@ pub +block-at+if-at+interp-region+last-pass+loop-at+one-arm+passes-at+two-arms-s
       instr-at-reads.Learnt,
       is-straight-reads.Asked,
       is-straight-reads.Learnt,
-      stretch-reads.Asked,
-      stretch-reads.Learnt,
+      step-reads.Asked,
+      step-reads.Learnt,
       passed-reads.Asked,
       passed-reads.Learnt,
       block-at-below t,
@@ -2478,7 +2478,7 @@ pub +block-at+if-at+interp-region+last-pass+loop-at+one-arm+passes-at+two-arms-s
     (interp-region-add-instr-at t)
     (interp-region-instr-at-requires t)
     (interp-region-is-straight-requires t)
-    (interp-region-stretch-requires t)
+    (interp-region-step-requires t)
     (interp-region-passed-requires t)
     (interp-region-same-length t)
     (interp-region-same-length-2 t)
