@@ -857,7 +857,17 @@ fn rule_of(
         return call(t, slots, places, height, i.a, index(i.b), ip);
     }
     if i.code == 52 {
-        return new_flat(t, slots, places, height, i.a as u8, index(i.b), i.c, x.widths, ip);
+        return new_flat(
+            t,
+            slots,
+            places,
+            height,
+            i.a as u8,
+            index(i.b),
+            i.c,
+            x.widths,
+            ip,
+        );
     }
     let k = looks_at(i.code, i.a, height, x.locals);
     let v = frame::value_at(slots, places, k);

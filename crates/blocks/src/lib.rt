@@ -306,7 +306,18 @@ pub fn last_end(
             height: height,
         },
         Flow::Ended => {
-            leave_head(slots, places, head, texts, height, k, broken, held, ip, locals)
+            leave_head(
+                slots,
+                places,
+                head,
+                texts,
+                height,
+                k,
+                broken,
+                held,
+                ip,
+                locals,
+            )
         }
         Flow::Falls => {
             if frame::same_stack(slots, places, e, head, texts, height) {
@@ -583,13 +594,7 @@ pub fn leaf_at(
 // ---- locals
 
 // The local that the instruction at p writes becomes unknown.
-fn invalidate_local(
-    t: &[u64],
-    slots: &mut [u64; 96],
-    places: &mut [u32; 1536],
-    x: Ctx,
-    p: usize,
-)
+fn invalidate_local(t: &[u64], slots: &mut [u64; 96], places: &mut [u32; 1536], x: Ctx, p: usize)
     requires { ⌜ Long (now slots) (now places) ⌝ }
     requires { ⌜ (x .first ≡ first-op (now t) (x .chunk)) × (x .count ≡ op-count (now t) (x .chunk)) × (x .first + x .count ≤ 4096) × (p < x .count) × (x .locals ≤ 32) ⌝ }
     ensures { λ r. ⌜ Long (now (slots .exit)) (now (places .exit)) × ((h : ℕ) → h ≤ 64 → stateOf (x .locals) (at h (now (slots .exit)) (now (places .exit))) ≡ with-locals (stateOf (x .locals) (at h (now (slots .entry)) (now (places .entry)))) (forget (chunkIn (now (t .entry)) x) p 1 (localsOf (x .locals) (at h (now (slots .entry)) (now (places .entry)))))) ⌝ }

@@ -147,3 +147,16 @@ pub locals-cover : (f g : ℕ → AnyShape) (lo n : ℕ) (r : Bool) → Same (λ
 unfolding covers-all
 locals-cover f g lo n r h =
     locals-same (λ j. join (f j) (g j)) f lo n r h ∙ ap (λ (l : List AnyShape). same-shapes l (up f lo n)) (sym (join-up f g lo n))
+
+module _ (a b : State) (n : ℕ) where
+  pub covers-height : (a .height ≡ b .height → ⊥) → false ≡ covers-state (stateOf n a) (stateOf n b)
+  unfolding covers-state
+  covers-height h =
+      rw (down-length (valueAt (a .slots) (a .places)) (a .height), down-length (valueAt (b .slots) (b .places)) (b .height), ne-eqb (a .height) (b .height) h)
+
+  pub covers-both : (r q : Bool) → a .height ≡ b .height → r ≡ covers-all (stackOf a) (stackOf b) → q ≡ covers-all (localsOf n a) (localsOf n b)
+      → r && q ≡ covers-state (stateOf n a) (stateOf n b)
+  unfolding covers-state
+  covers-both r q h e f =
+      rw (down-length (valueAt (a .slots) (a .places)) (a .height), down-length (valueAt (b .slots) (b .places)) (b .height), eq-eqb (a .height) (b .height) h)
+      (ap₂ (λ x y. x && y) e f)

@@ -18,7 +18,7 @@ ghost use Rattle.definition.specs.Instructions.{Chunk};
 ghost use Rattle.definition.specs.Effects.{built-places, packed};
 ghost use Rattle.value_layout.specs.Sizes.{Wide};
 ghost use Rattle.shapes.specs.Model.{shapeOf, valueOf, countOf};
-ghost use Rattle.shapes.specs.Cover.{covers, covers-all};
+ghost use Rattle.shapes.specs.Cover.{covers, covers-all, covers-state};
 ghost use Rattle.shapes.specs.Text.{packedOf, Means};
 ghost use Rattle.frame.specs.Model.{slotOf, valueIn, valueAt, at, stackOf, localsOf, stateOf, replaced, withLocal, widened, Long};
 ghost use Rattle.frame.specs.Slots.{Written, Filled, Copied, Joined, Same};
@@ -430,6 +430,70 @@ pub fn covers_locals(
         }
     }
     true
+}
+
+// Whether a join with another state's operands, of which there are as many, would leave these as they are.
+fn covers_stack(
+    slots: &[u64; 96],
+    places: &[u32; 1536],
+    others: &[u64; 96],
+    held: &[u32; 1536],
+    height: usize,
+) -> bool
+    requires { ⌜ Long (now slots) (now places) × Long (now others) (now held) × (height ≤ 64) ⌝ }
+    ensures { λ r. ⌜ r ≡ covers-all (stackOf (at height (now (slots .entry)) (now (places .entry)))) (stackOf (at height (now (others .entry)) (now (held .entry)))) ⌝ }
+{
+    let mut i = 0;
+    while i < height {
+        if covers_at(slots, places, others, held, i) {
+            i += 1;
+        } else {
+            return false;
+        }
+    }
+    true
+}
+
+// ---- whole states
+
+impl State {
+    // The join of two states of one height, by value.
+    pub fn join(self, other: State, locals: usize) -> State
+        requires { ⌜ (self .height ≤ 64) × (self .height ≡ other .height) × (locals ≤ 32) ⌝ }
+        ensures { λ r. ⌜ (r .height ≡ self .height) × (stateOf locals r ≡ join-states (stateOf locals self) (stateOf locals other)) ⌝ }
+    {
+        let h = self.height;
+        let mut slots = self.slots;
+        let mut places = self.places;
+        let others = other.slots;
+        let held = other.places;
+        join(&mut slots, &mut places, &others, &held, h, locals);
+        State {
+            height: h,
+            slots: slots,
+            places: places,
+        }
+    }
+
+    // Whether a join with another state would leave this one as it is.
+    pub fn covers(self, other: State, locals: usize) -> bool
+        requires { ⌜ (self .height ≤ 64) × (locals ≤ 32) ⌝ }
+        ensures { λ r. ⌜ r ≡ covers-state (stateOf locals self) (stateOf locals other) ⌝ }
+    {
+        let h = self.height;
+        if h != other.height {
+            return false;
+        }
+        let slots = self.slots;
+        let places = self.places;
+        let others = other.slots;
+        let held = other.places;
+        if covers_stack(&slots, &places, &others, &held, h) {
+            covers_locals(&slots, &places, &others, &held, locals)
+        } else {
+            false
+        }
+    }
 }
 
 // ---- new composites

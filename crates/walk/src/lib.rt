@@ -617,7 +617,18 @@ pub fn last_pass(
         height,
         none,
     );
-    blocks::last_end(o, slots, places, head, texts, height, broken, held, ip, locals)
+    blocks::last_end(
+        o,
+        slots,
+        places,
+        head,
+        texts,
+        height,
+        broken,
+        held,
+        ip,
+        locals,
+    )
 }
 
 // The walk of chunk k.

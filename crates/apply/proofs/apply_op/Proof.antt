@@ -59,12 +59,14 @@ passed-requires c κs = search needs
 -- src/lib.rt:942:9
 returns-2 : tie.Need-returns-2
 returns-2 c =
-    let a = c .before .before .before .before .before .before .before .before .before .args in
-    (search needs, record {
-      result = stopped (chunkOf (a .t .now) (a .x .chunk)) (instrOf (a .i)) (a .x .locals) (a .ip) (at (a .height) (a .slots .now) (a .places .now)) (c .before .before .before .rule-of .result) (c .before .before .before .rule-of .ensures) (c .before .before .check-room .result) (c .before .before .check-room .ensures) (stateOf (a .x .locals) (at (a .height) (a .slots .now) (a .places .now))) (sym (c .before .passed .ensures) ∙ c .if2 .left);
-      blind = c .before .before .before .rule-of .ensures .blind;
-      low = c .before .before .before .before .before .before .before .before .before .pre .1 .4;
-    })
+    let a = c .before .before .before .before .before .before .before .before .before .args in (
+      search needs,
+      record {
+        result = stopped (chunkOf (a .t .now) (a .x .chunk)) (instrOf (a .i)) (a .x .locals) (a .ip) (at (a .height) (a .slots .now) (a .places .now)) (c .before .before .before .rule-of .result) (c .before .before .before .rule-of .ensures) (c .before .before .check-room .result) (c .before .before .check-room .ensures) (stateOf (a .x .locals) (at (a .height) (a .slots .now) (a .places .now))) (sym (c .before .passed .ensures) ∙ c .if2 .left);
+        blind = c .before .before .before .rule-of .ensures .blind;
+        low = c .before .before .before .before .before .before .before .before .before .pre .1 .4;
+      },
+    )
 
 -- src/lib.rt:950:9
 count-requires : tie.Need-count-requires
@@ -91,13 +93,15 @@ returns-3 : tie.Need-returns-3
 unfolding refusal
 returns-3 c =
     let a = c .before .before .before .before .before .before .before .before .before .before .before .before .before .before .before .before .args in
-    let z = is-none-eq _ (sym (c .before .before .before .before .before .before .before .before .passed .ensures) ∙ c .before .before .before .before .before .before .before .if2 .taken) in
-    (search needs, record {
-      result = settled (chunkOf (a .t .now) (a .x .chunk)) (instrOf (a .i)) (a .x .locals) (a .ip) (at (a .height) (a .slots .now) (a .places .now)) (c .before .before .before .before .before .before .before .before .before .before .rule-of .result) (c .before .before .before .before .before .before .before .before .before .before .rule-of .ensures) (c .before .before .before .before .before .before .before .before .before .check-room .result) (c .before .before .before .before .before .before .before .before .before .check-room .ensures) _ _ _ z (c .before .before .before .before .before .count .ensures .0) (c .before .before .before .before .count2 .ensures .0)
-          (c .replace .ensures .2 (a .x .locals) (locals-fit _ _ _ (c .before .before .before .before .before .before .before .before .before .before .before .before .before .before .before .before .pre .0)) ∙ ap (λ (w : AnyShape). replaced (c .before .before .before .before .before .before .before .before .before .before .rule-of .result .take) (valueOf (c .before .before .before .before .before .before .before .before .before .before .rule-of .result .value)) (c .before .before .before .before .before .count .result) w (c .before .before .before .before .count2 .result) (stateOf (a .x .locals) (at (a .height) (a .slots .now) (a .places .now)))) (c .before .before .before .scalar-value .ensures));
-      blind = c .before .before .before .before .before .before .before .before .before .before .rule-of .ensures .blind;
-      low = omega (arith, c .replace .ensures .1, c .before .before .before .before .before .before .before .before .before .check-room .ensures .room z .1, c .before .before .before .before .before .count .ensures .0, c .before .before .before .before .count2 .ensures .0);
-    })
+    let z = is-none-eq _ (sym (c .before .before .before .before .before .before .before .before .passed .ensures) ∙ c .before .before .before .before .before .before .before .if2 .taken) in (
+      search needs,
+      record {
+        result = settled (chunkOf (a .t .now) (a .x .chunk)) (instrOf (a .i)) (a .x .locals) (a .ip) (at (a .height) (a .slots .now) (a .places .now)) (c .before .before .before .before .before .before .before .before .before .before .rule-of .result) (c .before .before .before .before .before .before .before .before .before .before .rule-of .ensures) (c .before .before .before .before .before .before .before .before .before .check-room .result) (c .before .before .before .before .before .before .before .before .before .check-room .ensures) _ _ _ z (c .before .before .before .before .before .count .ensures .0) (c .before .before .before .before .count2 .ensures .0)
+            (c .replace .ensures .2 (a .x .locals) (locals-fit _ _ _ (c .before .before .before .before .before .before .before .before .before .before .before .before .before .before .before .before .pre .0)) ∙ ap (λ (w : AnyShape). replaced (c .before .before .before .before .before .before .before .before .before .before .rule-of .result .take) (valueOf (c .before .before .before .before .before .before .before .before .before .before .rule-of .result .value)) (c .before .before .before .before .before .count .result) w (c .before .before .before .before .count2 .result) (stateOf (a .x .locals) (at (a .height) (a .slots .now) (a .places .now)))) (c .before .before .before .scalar-value .ensures));
+        blind = c .before .before .before .before .before .before .before .before .before .before .rule-of .ensures .blind;
+        low = omega (arith, c .replace .ensures .1, c .before .before .before .before .before .before .before .before .before .check-room .ensures .room z .1, c .before .before .before .before .before .count .ensures .0, c .before .before .before .before .count2 .ensures .0);
+      },
+    )
 
 pub apply-op-spec : {M : Type 1} → statement M
 apply-op-spec =

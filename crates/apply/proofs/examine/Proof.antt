@@ -50,12 +50,14 @@ returns c =
     let d = chunkOf (a .t .now) (a .x .chunk) in
     let s = stateOf (a .x .locals) (at (a .height) (a .slots .now) (a .places .now)) in
     let h = down-length (valueAt (a .slots .now) (a .places .now)) (a .height) in
-    let f = effect-of (a .t .now) (a .x .chunk) (a .x) (a .i) (c .before .before .before .before .before .before .before .op-depth-effect .result) (c .before .before .before .before .before .before .before .before .before .pre .0) (c .before .before .before .before .before .before .before .op-depth-effect .ensures) .0 in
-    (search needs, record {
-      result = c .apply-op .ensures .1 .result ∙ examine-step d (a .ip) (a .floor) (instrOf (a .i)) s (a .height) (c .before .before .before .before .before .before .before .op-depth-effect .result .need) (sym h) f (refusal (c .before .before .before .before .before .check-need .result)) (c .before .before .before .before .before .check-need .ensures .0 ∙ ap (λ (n : ℕ). first (floor-test (a .ip) (a .floor) (a .height) n) (need-test (a .ip) (a .height) n)) (c .before .before .before .before .before .before .index .ensures)) (sym (c .before .before .before .before .passed .ensures) ∙ c .before .before .before .if1 .taken);
-      blind = c .apply-op .ensures .1 .blind;
-      low = c .apply-op .ensures .1 .low;
-    })
+    let f = effect-of (a .t .now) (a .x .chunk) (a .x) (a .i) (c .before .before .before .before .before .before .before .op-depth-effect .result) (c .before .before .before .before .before .before .before .before .before .pre .0) (c .before .before .before .before .before .before .before .op-depth-effect .ensures) .0 in (
+      search needs,
+      record {
+        result = c .apply-op .ensures .1 .result ∙ examine-step d (a .ip) (a .floor) (instrOf (a .i)) s (a .height) (c .before .before .before .before .before .before .before .op-depth-effect .result .need) (sym h) f (refusal (c .before .before .before .before .before .check-need .result)) (c .before .before .before .before .before .check-need .ensures .0 ∙ ap (λ (n : ℕ). first (floor-test (a .ip) (a .floor) (a .height) n) (need-test (a .ip) (a .height) n)) (c .before .before .before .before .before .before .index .ensures)) (sym (c .before .before .before .before .passed .ensures) ∙ c .before .before .before .if1 .taken);
+        blind = c .apply-op .ensures .1 .blind;
+        low = c .apply-op .ensures .1 .low;
+      },
+    )
 
 -- src/lib.rt:983:16
 met-unknown-requires : tie.Need-met-unknown-requires
@@ -68,12 +70,14 @@ returns-2 c =
     let d = chunkOf (a .t .now) (a .x .chunk) in
     let s = stateOf (a .x .locals) (at (a .height) (a .slots .now) (a .places .now)) in
     let h = down-length (valueAt (a .slots .now) (a .places .now)) (a .height) in
-    let f = effect-of (a .t .now) (a .x .chunk) (a .x) (a .i) (c .before .before .before .before .before .before .before .op-depth-effect .result) (c .before .before .before .before .before .before .before .before .before .pre .0) (c .before .before .before .before .before .before .before .op-depth-effect .ensures) .0 in
-    (search needs, record {
-      result = examine-stop d (a .ip) (a .floor) (instrOf (a .i)) s (a .height) (c .before .before .before .before .before .before .before .op-depth-effect .result .need) (sym h) f (refusal (c .before .before .before .before .before .check-need .result)) s (c .before .before .before .before .before .check-need .ensures .0 ∙ ap (λ (n : ℕ). first (floor-test (a .ip) (a .floor) (a .height) n) (need-test (a .ip) (a .height) n)) (c .before .before .before .before .before .before .index .ensures)) (sym (c .before .before .before .before .passed .ensures) ∙ c .before .before .before .if1 .left);
-      blind = c .met-unknown .ensures d;
-      low = search needs;
-    })
+    let f = effect-of (a .t .now) (a .x .chunk) (a .x) (a .i) (c .before .before .before .before .before .before .before .op-depth-effect .result) (c .before .before .before .before .before .before .before .before .before .pre .0) (c .before .before .before .before .before .before .before .op-depth-effect .ensures) .0 in (
+      search needs,
+      record {
+        result = examine-stop d (a .ip) (a .floor) (instrOf (a .i)) s (a .height) (c .before .before .before .before .before .before .before .op-depth-effect .result .need) (sym h) f (refusal (c .before .before .before .before .before .check-need .result)) s (c .before .before .before .before .before .check-need .ensures .0 ∙ ap (λ (n : ℕ). first (floor-test (a .ip) (a .floor) (a .height) n) (need-test (a .ip) (a .height) n)) (c .before .before .before .before .before .before .index .ensures)) (sym (c .before .before .before .before .passed .ensures) ∙ c .before .before .before .if1 .left);
+        blind = c .met-unknown .ensures d;
+        low = search needs;
+      },
+    )
 
 pub examine-spec : {M : Type 1} → statement M
 examine-spec =

@@ -72,13 +72,15 @@ returns c =
     let s = stateOf n (at (a .height) (a .slots .now) (a .places .now)) in
     let v = valueOf (c .before .before .before .before .before .before .before .before .before .operand .result) in
     let f = c .before .before .before .before .before .before .from-wire .ensures ∙ c .before .before .before .before .before .before .before .sig-param .ensures ∙ ap₂ (λ (g : Sig) (j : ℕ). getD (map from-wire (g .params)) j unknown) (sym (chunk-sig (a .t .now) (a .x .chunk))) (c .before .before .before .before .before .before .before .before .index .ensures) in
-    let h : length (stackOf (at (a .height) (a .slots .now) (a .places .now))) ≡ (a .height) = down-length (valueAt (a .slots .now) (a .places .now)) (a .height) in
-    (search needs, record {
-      result = local-done d (a .ip) (a .k) s v _ (c .before .before .before .before .before .before .before .before .before .operand .ensures) f (c .before .before .before .before .before .shapes-compatible .result) (stateOf n (at (a .height - 1) (c .set-local .last .0) (c .set-local .last .1 .0))) (c .before .before .before .before .before .shapes-compatible .ensures _ none) (c .before .before .before .before .if1 .taken) (omega arith) (omega arith)
-          (c .set-local .ensures .1 (a .height - 1) (omega arith) ∙ ap₂ (λ (j : ℕ) (z : AnyState). withLocal j v z) (c .before .index2 .ensures) (pop-law (at (a .height) (a .slots .now) (a .places .now)) 1 n (search needs)));
-      blind = local-blind d (a .ip) (a .k) s v _ (c .before .before .before .before .before .before .before .before .before .operand .ensures) f;
-      low = omega arith;
-    })
+    let h : length (stackOf (at (a .height) (a .slots .now) (a .places .now))) ≡ (a .height) = down-length (valueAt (a .slots .now) (a .places .now)) (a .height) in (
+      search needs,
+      record {
+        result = local-done d (a .ip) (a .k) s v _ (c .before .before .before .before .before .before .before .before .before .operand .ensures) f (c .before .before .before .before .before .shapes-compatible .result) (stateOf n (at (a .height - 1) (c .set-local .last .0) (c .set-local .last .1 .0))) (c .before .before .before .before .before .shapes-compatible .ensures _ none) (c .before .before .before .before .if1 .taken) (omega arith) (omega arith)
+            (c .set-local .ensures .1 (a .height - 1) (omega arith) ∙ ap₂ (λ (j : ℕ) (z : AnyState). withLocal j v z) (c .before .index2 .ensures) (pop-law (at (a .height) (a .slots .now) (a .places .now)) 1 n (search needs)));
+        blind = local-blind d (a .ip) (a .k) s v _ (c .before .before .before .before .before .before .before .before .before .operand .ensures) f;
+        low = omega arith;
+      },
+    )
 
 -- src/lib.rt:731:49
 wide-requires : tie.Need-wide-requires
@@ -93,12 +95,14 @@ returns-2 c =
     let n = a .x .locals in
     let s = stateOf n (at (a .height) (a .slots .now) (a .places .now)) in
     let v = valueOf (c .before .before .before .before .before .before .operand .result) in
-    let f = c .before .before .before .from-wire .ensures ∙ c .before .before .before .before .sig-param .ensures ∙ ap₂ (λ (g : Sig) (j : ℕ). getD (map from-wire (g .params)) j unknown) (sym (chunk-sig (a .t .now) (a .x .chunk))) (c .before .before .before .before .before .index .ensures) in
-    (search needs, record {
-      result = ap (λ (z : ℕ). pass (some (13 ∷ (a .ip) ∷ z ∷ [])) s) (c .wide .ensures) ∙ local-refused d (a .ip) (a .k) s v _ (c .before .before .before .before .before .before .operand .ensures) f (c .before .before .shapes-compatible .result) s (c .before .before .shapes-compatible .ensures _ none) (c .before .if1 .left);
-      blind = local-blind d (a .ip) (a .k) s v _ (c .before .before .before .before .before .before .operand .ensures) f;
-      low = search needs;
-    })
+    let f = c .before .before .before .from-wire .ensures ∙ c .before .before .before .before .sig-param .ensures ∙ ap₂ (λ (g : Sig) (j : ℕ). getD (map from-wire (g .params)) j unknown) (sym (chunk-sig (a .t .now) (a .x .chunk))) (c .before .before .before .before .before .index .ensures) in (
+      search needs,
+      record {
+        result = ap (λ (z : ℕ). pass (some (13 ∷ (a .ip) ∷ z ∷ [])) s) (c .wide .ensures) ∙ local-refused d (a .ip) (a .k) s v _ (c .before .before .before .before .before .before .operand .ensures) f (c .before .before .shapes-compatible .result) s (c .before .before .shapes-compatible .ensures _ none) (c .before .if1 .left);
+        blind = local-blind d (a .ip) (a .k) s v _ (c .before .before .before .before .before .before .operand .ensures) f;
+        low = search needs;
+      },
+    )
 
 pub set-local-spec : {M : Type 1} → statement M
 set-local-spec =

@@ -19,9 +19,12 @@ join-requires c κs = search needs
 -- src/lib.rt:128:9
 returns : tie.Need-returns
 unfolding pendingOf
-returns c =
-    (search needs, add-same (c .before .before .before .before .args .locals) (breaksIn (c .before .before .before .before .args .b) (c .before .before .before .before .args .broken .now) (c .before .before .before .before .args .held .now)) (at (c .before .before .before .before .args .height) (c .before .before .before .before .args .slots .now) (c .before .before .before .before .args .places .now)) (c .before .before .before .before .pre .5) (c .before .before .before .if1 .taken) (at (c .before .before .before .before .args .height) (c .join .last .0) (c .join .last .1 .0))
-    (subst (λ (n : ℕ). stateOf (c .before .before .before .before .args .locals) (at (c .before .before .before .before .args .height) (c .join .last .0) (c .join .last .1 .0)) ≡ join-states (stateOf (c .before .before .before .before .args .locals) (at n (c .before .before .before .before .args .broken .now) (c .before .before .before .before .args .held .now))) (stateOf (c .before .before .before .before .args .locals) (at (c .before .before .before .before .args .height) (c .before .before .before .before .args .slots .now) (c .before .before .before .before .args .places .now)))) (sym (c .before .before .before .if1 .taken)) (c .join .ensures .1)), search needs)
+returns c = (
+  search needs,
+  add-same (c .before .before .before .before .args .locals) (breaksIn (c .before .before .before .before .args .b) (c .before .before .before .before .args .broken .now) (c .before .before .before .before .args .held .now)) (at (c .before .before .before .before .args .height) (c .before .before .before .before .args .slots .now) (c .before .before .before .before .args .places .now)) (c .before .before .before .before .pre .5) (c .before .before .before .if1 .taken) (at (c .before .before .before .before .args .height) (c .join .last .0) (c .join .last .1 .0))
+      (subst (λ (n : ℕ). stateOf (c .before .before .before .before .args .locals) (at (c .before .before .before .before .args .height) (c .join .last .0) (c .join .last .1 .0)) ≡ join-states (stateOf (c .before .before .before .before .args .locals) (at n (c .before .before .before .before .args .broken .now) (c .before .before .before .before .args .held .now))) (stateOf (c .before .before .before .before .args .locals) (at (c .before .before .before .before .args .height) (c .before .before .before .before .args .slots .now) (c .before .before .before .before .args .places .now)))) (sym (c .before .before .before .if1 .taken)) (c .join .ensures .1)),
+  search needs,
+)
 
 -- src/lib.rt:113:1
 returns-2 : tie.Need-returns-2

@@ -19,9 +19,12 @@ join-requires c κs = search needs
 
 -- src/lib.rt:205:9
 returns : tie.Need-returns
-returns c =
-    (search needs, (λ q h sh. join-equal (c .before .before .before .before .args .locals) (c .before .before .before .before .args .ip) (record { flow = Falls; state = at (c .before .before .before .before .args .height) (c .before .before .before .before .args .slots .now) (c .before .before .before .before .args .places .now); breaks = breaksIn (c .before .before .before .before .args .k) q h }) (record { flow = Falls; state = at (c .before .before .before .before .args .other) (c .before .before .before .before .args .others .now) (c .before .before .before .before .args .texts .now); breaks = breaksIn (c .before .before .before .before .args .k) q h }) sh _ refl refl (c .before .before .before .if1 .taken)
-    (subst (λ (n : ℕ). stateOf (c .before .before .before .before .args .locals) (at (c .before .before .before .before .args .height) (c .join .last .0) (c .join .last .1 .0)) ≡ join-states (stateOf (c .before .before .before .before .args .locals) (at (c .before .before .before .before .args .height) (c .before .before .before .before .args .slots .now) (c .before .before .before .before .args .places .now))) (stateOf (c .before .before .before .before .args .locals) (at n (c .before .before .before .before .args .others .now) (c .before .before .before .before .args .texts .now)))) (c .before .before .before .if1 .taken) (c .join .ensures .1))), (search needs, search needs))
+returns c = (
+  search needs,
+  (λ q h sh. join-equal (c .before .before .before .before .args .locals) (c .before .before .before .before .args .ip) (record { flow = Falls; state = at (c .before .before .before .before .args .height) (c .before .before .before .before .args .slots .now) (c .before .before .before .before .args .places .now); breaks = breaksIn (c .before .before .before .before .args .k) q h }) (record { flow = Falls; state = at (c .before .before .before .before .args .other) (c .before .before .before .before .args .others .now) (c .before .before .before .before .args .texts .now); breaks = breaksIn (c .before .before .before .before .args .k) q h }) sh _ refl refl (c .before .before .before .if1 .taken)
+      (subst (λ (n : ℕ). stateOf (c .before .before .before .before .args .locals) (at (c .before .before .before .before .args .height) (c .join .last .0) (c .join .last .1 .0)) ≡ join-states (stateOf (c .before .before .before .before .args .locals) (at (c .before .before .before .before .args .height) (c .before .before .before .before .args .slots .now) (c .before .before .before .before .args .places .now))) (stateOf (c .before .before .before .before .args .locals) (at n (c .before .before .before .before .args .others .now) (c .before .before .before .before .args .texts .now)))) (c .before .before .before .if1 .taken) (c .join .ensures .1))),
+  (search needs, search needs),
+)
 
 -- src/lib.rt:189:1
 returns-2 : tie.Need-returns-2

@@ -62,13 +62,15 @@ put-requires c κs = search needs
 -- src/lib.rt:216:1
 returns : tie.Need-returns
 unfolding valueAt
-returns c =
-    (search needs, λ h. let a = c .before .before .before .before .before .before .args in
-    let w = getD (a .others .now) (a .i) 0 in
-    let n = c .before .before .before .known-places .ensures .1 ∙ ap (λ (s : Slot). countOf (s .known)) (c .before .before .before .before .slot-in .ensures) in
-    subst (λ (ps : List ℕ). Written (at h (a .slots .now) (a .places .now)) (a .i) (valueAt (a .others .now) (a .held .now) (a .i)) (at h (set (a .slots .now) (a .i) w) ps)) (sym (c .put .ensures .1))
-    (subst (λ (v : AnyShape). Written (at h (a .slots .now) (a .places .now)) (a .i) v (at h (set (a .slots .now) (a .i) w) (paste (a .places .now) (a .i * 16) (c .before .before .cut .result) (c .before .before .before .known-places .result)))) (read-law (slotOf w) (a .held .now) (a .i) _ _ (search needs) (search needs) n (c .before .before .cut .ensures))
-    (stored (a .slots .now) (a .places .now) (a .i) w (slotOf w) (c .before .before .cut .result) _ refl (search needs) (search needs) (search needs) (search needs) n (c .before .before .before .known-places .ensures .0) h)))
+returns c = (
+  search needs,
+  λ h. let a = c .before .before .before .before .before .before .args in
+      let w = getD (a .others .now) (a .i) 0 in
+      let n = c .before .before .before .known-places .ensures .1 ∙ ap (λ (s : Slot). countOf (s .known)) (c .before .before .before .before .slot-in .ensures) in
+      subst (λ (ps : List ℕ). Written (at h (a .slots .now) (a .places .now)) (a .i) (valueAt (a .others .now) (a .held .now) (a .i)) (at h (set (a .slots .now) (a .i) w) ps)) (sym (c .put .ensures .1))
+      (subst (λ (v : AnyShape). Written (at h (a .slots .now) (a .places .now)) (a .i) v (at h (set (a .slots .now) (a .i) w) (paste (a .places .now) (a .i * 16) (c .before .before .cut .result) (c .before .before .before .known-places .result)))) (read-law (slotOf w) (a .held .now) (a .i) _ _ (search needs) (search needs) n (c .before .before .cut .ensures))
+      (stored (a .slots .now) (a .places .now) (a .i) w (slotOf w) (c .before .before .cut .result) _ refl (search needs) (search needs) (search needs) (search needs) n (c .before .before .before .known-places .ensures .0) h)),
+)
 
 pub copy-slot-spec : {M : Type 1} → statement M
 copy-slot-spec =

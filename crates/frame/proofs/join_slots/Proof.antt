@@ -37,13 +37,18 @@ loop-less c = search needs
 
 -- src/lib.rt:320:5
 loop-again : tie.Need-loop-again Inv-loop μ-loop
-loop-again c =
-    (search needs, search needs, search needs, search needs, λ h.
-    let s = at h (c .before .before .before .before .before .args .slots .now) (c .before .before .before .before .before .args .places .now) in
-    let b = at h (c .before .before .before .before .before .args .others .now) (c .before .before .before .before .before .args .held .now) in
-    let o = at h (c .before .before .before .before .loop .slots) (c .before .before .before .before .loop .places) in
-    join-more s b o (c .before .before .before .before .before .args .lo) (c .before .before .before .before .loop .i) (c .before .before .before .before .loop .inv .0) (c .before .before .before .before .loop .inv .4 h) _
-    (subst (λ (v : AnyShape). Written o (c .before .before .before .before .loop .i) (join v (valueAt (b .slots) (b .places) (c .before .before .before .before .loop .i))) (at h (c .join-slot .last .0) (c .join-slot .last .1 .0))) (join-next s b o (c .before .before .before .before .before .args .lo) (c .before .before .before .before .loop .i) (c .before .before .before .before .loop .inv .0) (c .before .before .before .before .loop .inv .4 h)) (c .join-slot .ensures .1 h)))
+loop-again c = (
+  search needs,
+  search needs,
+  search needs,
+  search needs,
+  λ h.
+      let s = at h (c .before .before .before .before .before .args .slots .now) (c .before .before .before .before .before .args .places .now) in
+      let b = at h (c .before .before .before .before .before .args .others .now) (c .before .before .before .before .before .args .held .now) in
+      let o = at h (c .before .before .before .before .loop .slots) (c .before .before .before .before .loop .places) in
+      join-more s b o (c .before .before .before .before .before .args .lo) (c .before .before .before .before .loop .i) (c .before .before .before .before .loop .inv .0) (c .before .before .before .before .loop .inv .4 h) _
+      (subst (λ (v : AnyShape). Written o (c .before .before .before .before .loop .i) (join v (valueAt (b .slots) (b .places) (c .before .before .before .before .loop .i))) (at h (c .join-slot .last .0) (c .join-slot .last .1 .0))) (join-next s b o (c .before .before .before .before .before .args .lo) (c .before .before .before .before .loop .i) (c .before .before .before .before .loop .inv .0) (c .before .before .before .before .loop .inv .4 h)) (c .join-slot .ensures .1 h)),
+)
 
 -- src/lib.rt:308:1
 returns : tie.Need-returns Inv-loop μ-loop

@@ -41,9 +41,11 @@ put-requires c κs = search needs
 
 -- src/lib.rt:142:1
 returns : tie.Need-returns
-returns c =
-    (search needs, λ h. let a = c .before .before .before .before .before .args in
-    subst (λ (ps : List ℕ). Written (at h (a .slots .now) (a .places .now)) (a .i) (valueOf (a .v)) (at h (set (a .slots .now) (a .i) (c .before .before .word-of .result)) ps)) (sym (c .put .ensures .1)) (stored (a .slots .now) (a .places .now) (a .i) (c .before .before .word-of .result) _ (a .v .places) _ (c .before .before .word-of .ensures) (search needs) (search needs) (search needs) (search needs) (c .before .before .before .known-places .ensures .1) (c .before .before .before .known-places .ensures .0) h))
+returns c = (
+  search needs,
+  λ h. let a = c .before .before .before .before .before .args in
+      subst (λ (ps : List ℕ). Written (at h (a .slots .now) (a .places .now)) (a .i) (valueOf (a .v)) (at h (set (a .slots .now) (a .i) (c .before .before .word-of .result)) ps)) (sym (c .put .ensures .1)) (stored (a .slots .now) (a .places .now) (a .i) (c .before .before .word-of .result) _ (a .v .places) _ (c .before .before .word-of .ensures) (search needs) (search needs) (search needs) (search needs) (c .before .before .before .known-places .ensures .1) (c .before .before .before .known-places .ensures .0) h),
+)
 
 pub write-spec : {M : Type 1} → statement M
 write-spec =

@@ -31,11 +31,10 @@ same-length-2 c = search needs
 
 -- src/lib.rt:20:1
 returns : tie.Need-returns
-returns c =
-    (
-    given-all _ (c .before .before .before .before .before .before .before .before .check-into .result) (c .before .before .before .numbers .result) _ _ _ (c .before .before .before .before .before .before .before .before .check-into .ensures .0) (c .before .before .before .numbers .ensures) (c .give .ensures),
-    sound-all _ _ (c .before .before .before .before .before .before .before .before .check-into .result) _ _ (c .before .before .before .before .before .before .before .before .check-into .ensures .0) (sound _ _ _ (c .before .before .before .before .before .before .before .before .check-into .result) _ _ (c .before .before .before .before .before .before .before .before .check-into .ensures .0)),
-    )
+returns c = (
+  given-all _ (c .before .before .before .before .before .before .before .before .check-into .result) (c .before .before .before .numbers .result) _ _ _ (c .before .before .before .before .before .before .before .before .check-into .ensures .0) (c .before .before .before .numbers .ensures) (c .give .ensures),
+  sound-all _ _ (c .before .before .before .before .before .before .before .before .check-into .result) _ _ (c .before .before .before .before .before .before .before .before .check-into .ensures .0) (sound _ _ _ (c .before .before .before .before .before .before .before .before .check-into .result) _ _ (c .before .before .before .before .before .before .before .before .check-into .ensures .0)),
+)
 
 pub stagecheck-check-in-spec : {M : Type 1} → statement M
 stagecheck-check-in-spec =
