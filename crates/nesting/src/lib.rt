@@ -282,9 +282,9 @@ fn check_code(
     targets: &mut [u16],
 ) -> ChunkNesting
     requires { ⌜ code .first + code .size ≤ 4096 ⌝ }
-    requires { ⌜ length (now middles) ≡ 4097 ⌝ }
-    requires { ⌜ length (now closers) ≡ 4097 ⌝ }
-    requires { ⌜ length (now targets) ≡ 4097 ⌝ }
+    requires { ⌜ code .size < length (now middles) ⌝ }
+    requires { ⌜ code .size < length (now closers) ⌝ }
+    requires { ⌜ code .size < length (now targets) ⌝ }
     ensures { λ r. ⌜ ((c : Chunk) → Coded c (now (t .entry)) code → Verdict c r) ⌝ }
 {
     let size = code.size;
@@ -336,6 +336,32 @@ fn code_of(t: &[u64], k: usize) -> Code
     }
 }
 
+// A chunk of any length, with room for as many open blocks as a listing can have.
+fn check_long(t: &[u64], code: Code) -> ChunkNesting
+    requires { ⌜ code .first + code .size ≤ 4096 ⌝ }
+    ensures { λ r. ⌜ ((c : Chunk) → Coded c (now (t .entry)) code → Verdict c r) ⌝ }
+{
+    let mut middles = [0u16; 4097];
+    let mut closers = [0u16; 4097];
+    let mut targets = [0u16; 4097];
+    check_code(t, code, &mut middles, &mut closers, &mut targets)
+}
+
+// The nesting of chunk k. A short one has little room, since room is set to zero first.
+fn check_chunk(t: &[u64], k: usize) -> ChunkNesting
+    requires { ⌜ k < 64 ⌝ }
+    ensures { λ r. ⌜ Verdict (chunkOf (now (t .entry)) k) r ⌝ }
+{
+    let code = code_of(t, k);
+    if code.size < 256 {
+        let mut middles = [0u16; 256];
+        let mut closers = [0u16; 256];
+        let mut targets = [0u16; 256];
+        return check_code(t, code, &mut middles, &mut closers, &mut targets);
+    }
+    check_long(t, code)
+}
+
 // What was found first in the chunks before k, or what chunk k adds.
 fn first_found(found: Nesting, k: usize, p: u16) -> Nesting
     ensures { λ r. ⌜ r ≡ deeper-of-all found k p ⌝ }
@@ -351,14 +377,10 @@ pub fn check_nesting(t: &[u64]) -> Nesting
     ensures { λ r. ⌜ numbers r ≡ nesting-test (chunksOf (now (t .entry))) ⌝ }
 {
     let n = bytecode::count(t, 7);
-    let mut middles = [0u16; 4097];
-    let mut closers = [0u16; 4097];
-    let mut targets = [0u16; 4097];
     let mut k = 0;
     let mut found = Nesting::Nested;
     while k < n {
-        let code = code_of(t, k);
-        let r = check_code(t, code, &mut middles, &mut closers, &mut targets);
+        let r = check_chunk(t, k);
         match r {
             ChunkNesting::Broken(p) => return Nesting::Broken { chunk: k, ip: p },
             ChunkNesting::TooDeep(p) => {

@@ -2,96 +2,94 @@
 -- chunk k on. Assumes nothing.
 use mathlib.Core.Path.{_≡_}
 use Prim.Native.Nat.{_-_}
-use lib.ListN.{length}
 use Rattle.bytecode.specs.Tables.{cap}
-use Rattle.bytecode.specs.Meaning.{count as countOf, count-low, chunkOf}
-use Rattle.nesting.proofs.Parts.{coded}
+use Rattle.bytecode.specs.Meaning.{count as countOf, count-low}
 use Rattle.nesting.proofs.All.{State, start, is-broken, is-deep, is-nested, ends-well}
-use Rattle.nesting.proofs.check_nesting.Statement.{statement}
-use Rattle.nesting.proofs.check_nesting.Tie as tie
 use borrow.Author.Needs.{needs}
 use native.Mathlib.Omega.{arith}
+use Rattle.nesting.proofs.check_nesting.Statement.{statement}
+use Rattle.nesting.proofs.check_nesting.Tie as tie
+use Rattle.nesting.proofs.check_nesting.Reads as reads
+use Rattle.nesting.proofs.check_nesting.Lts as lts
+use Rattle.bytecode.proofs.count.Reads as count-reads
+use Rattle.nesting.proofs.check_chunk.Reads as check-chunk-reads
+use Rattle.nesting.proofs.first_found.Reads as first-found-reads
 
 abbrev Inv-loop : tie.InvT-loop
-Inv-loop t n middles₀ closers₀ targets₀ k₀ found₀ middles closers targets k found = (length middles ≡ 4097) × (length closers ≡ 4097) × (length targets ≡ 4097) × State t k found
+Inv-loop t n k₀ found₀ k found = State t k found
 
 abbrev μ-loop : tie.MeasureT-loop
-μ-loop t n middles₀ closers₀ targets₀ k₀ found₀ middles closers targets k found = n - k
+μ-loop t n k₀ found₀ k found = n - k
 
+-- src/lib.rt:379:9
 count-requires : tie.Need-count-requires Inv-loop μ-loop
 count-requires c κs = search needs
 
+-- src/lib.rt:382:5
 loop-holds : tie.Need-loop-holds Inv-loop μ-loop
-loop-holds c = (search needs, search needs, search needs, start (c .before .before .args .t .now))
+loop-holds c = start (c .before .before .args .t .now)
 
-code-of-requires : tie.Need-code-of-requires Inv-loop μ-loop
+-- src/lib.rt:383:13
+check-chunk-requires : tie.Need-check-chunk-requires Inv-loop μ-loop
 unfolding cap
-code-of-requires c κs = omega (arith, c .before .before .count .ensures, count-low (c .before .before .before .before .args .t .now) 7)
+check-chunk-requires c κs = omega (arith, c .before .before .count .ensures, count-low (c .before .before .before .before .args .t .now) 7)
 
-slice-aggregate-check-code : tie.Need-slice-aggregate-check-code Inv-loop μ-loop
-slice-aggregate-check-code c = search needs
-
-slice-aggregate-check-code-2 : tie.Need-slice-aggregate-check-code-2 Inv-loop μ-loop
-slice-aggregate-check-code-2 c = search needs
-
-slice-aggregate-check-code-3 : tie.Need-slice-aggregate-check-code-3 Inv-loop μ-loop
-slice-aggregate-check-code-3 c = search needs
-
-check-code-requires : tie.Need-check-code-requires Inv-loop μ-loop
-check-code-requires c κs = search needs
-
+-- src/lib.rt:385:34
 enum-known-r : tie.Need-enum-known-r Inv-loop μ-loop
 enum-known-r c = search needs
 
+-- src/lib.rt:385:40
 returns : tie.Need-returns Inv-loop μ-loop
 returns c =
-    is-broken (c .before .before .before .before .before .before .before .before .before .before .before .before .before .before .before .args .t .now) (c .before .before .before .before .before .before .before .before .before .before .before .before .loop .k) (c .before .before .before .before .before .before .before .before .before .before .before .before .loop .found) (c .before .before .before .before .before .before .before .before .before .before .before .before .loop .inv .3) (omega (arith, c .before .before .before .before .before .before .before .before .before .before .before .before .before .count .ensures)) (c .before .before .before .before .before .before .check-code .result)
-    (c .before .before .before .before .before .before .check-code .ensures (chunkOf (c .before .before .before .before .before .before .before .before .before .before .before .before .before .before .before .args .t .now) (c .before .before .before .before .before .before .before .before .before .before .before .before .loop .k)) (coded (c .before .before .before .before .before .before .before .before .before .before .before .before .before .before .before .args .t .now) (c .before .before .before .before .before .before .before .before .before .before .before .before .loop .k) (c .before .before .before .before .before .before .before .before .before .before .code-of .result) (c .before .before .before .before .before .before .before .before .before .before .code-of .ensures)))
+    is-broken (c .before .before .before .before .before .before .before .before .args .t .now) (c .before .before .before .before .before .loop .k) (c .before .before .before .before .before .loop .found) (c .before .before .before .before .before .loop .inv) (omega (arith, c .before .before .before .before .before .before .count .ensures)) (c .before .before .before .check-chunk .result)
+    (c .before .before .before .check-chunk .ensures)
     _ (c .before .r .given .1)
 
+-- src/lib.rt:386:35
 enum-known-r-2 : tie.Need-enum-known-r-2 Inv-loop μ-loop
 enum-known-r-2 c = search needs
 
+-- src/lib.rt:387:17
 first-found-requires : tie.Need-first-found-requires Inv-loop μ-loop
 first-found-requires c κs = search needs
 
+-- src/lib.rt:388:17
 add-k : tie.Need-add-k Inv-loop μ-loop
 add-k c = search needs
 
+-- src/lib.rt:382:5
 loop-less : tie.Need-loop-less Inv-loop μ-loop
 loop-less c = search needs
 
+-- src/lib.rt:382:5
 loop-again : tie.Need-loop-again Inv-loop μ-loop
-loop-again c = (
-  search needs,
-  search needs,
-  search needs,
-  is-deep (c .before .before .before .before .before .before .before .before .before .before .before .before .before .before .before .before .args .t .now) (c .before .before .before .before .before .before .before .before .before .before .before .before .before .loop .k) (c .before .before .before .before .before .before .before .before .before .before .before .before .before .loop .found) (c .before .before .before .before .before .before .before .before .before .before .before .before .before .loop .inv .3) (omega (arith, c .before .before .before .before .before .before .before .before .before .before .before .before .before .before .count .ensures)) (c .before .before .before .before .before .before .before .check-code .result)
-      (c .before .before .before .before .before .before .before .check-code .ensures (chunkOf (c .before .before .before .before .before .before .before .before .before .before .before .before .before .before .before .before .args .t .now) (c .before .before .before .before .before .before .before .before .before .before .before .before .before .loop .k)) (coded (c .before .before .before .before .before .before .before .before .before .before .before .before .before .before .before .before .args .t .now) (c .before .before .before .before .before .before .before .before .before .before .before .before .before .loop .k) (c .before .before .before .before .before .before .before .before .before .before .before .code-of .result) (c .before .before .before .before .before .before .before .before .before .before .before .code-of .ensures)))
-      _ (c .first-found .result) (c .before .before .r2 .given .1) (c .first-found .ensures),
-)
+loop-again c =
+    is-deep (c .before .before .before .before .before .before .before .before .before .args .t .now) (c .before .before .before .before .before .before .loop .k) (c .before .before .before .before .before .before .loop .found) (c .before .before .before .before .before .before .loop .inv) (omega (arith, c .before .before .before .before .before .before .before .count .ensures)) (c .before .before .before .before .check-chunk .result)
+          (c .before .before .before .before .check-chunk .ensures)
+          _ (c .first-found .result) (c .before .before .r2 .given .1) (c .first-found .ensures)
 
+-- src/lib.rt:391:17
 enum-told : tie.Need-enum-told Inv-loop μ-loop
 enum-told c = search needs
 
+-- src/lib.rt:391:17
 add-k-2 : tie.Need-add-k-2 Inv-loop μ-loop
 add-k-2 c = search needs
 
+-- src/lib.rt:382:5
 loop-less-2 : tie.Need-loop-less-2 Inv-loop μ-loop
 loop-less-2 c = search needs
 
+-- src/lib.rt:382:5
 loop-again-2 : tie.Need-loop-again-2 Inv-loop μ-loop
-loop-again-2 c = (
-  search needs,
-  search needs,
-  search needs,
-  is-nested (c .before .before .before .before .before .before .before .before .before .before .before .before .before .before .args .t .now) (c .before .before .before .before .before .before .before .before .before .before .before .loop .k) (c .before .before .before .before .before .before .before .before .before .before .before .loop .found) (c .before .before .before .before .before .before .before .before .before .before .before .loop .inv .3) (omega (arith, c .before .before .before .before .before .before .before .before .before .before .before .before .count .ensures)) (c .before .before .before .before .before .check-code .result)
-      (c .before .before .before .before .before .check-code .ensures (chunkOf (c .before .before .before .before .before .before .before .before .before .before .before .before .before .before .args .t .now) (c .before .before .before .before .before .before .before .before .before .before .before .loop .k)) (coded (c .before .before .before .before .before .before .before .before .before .before .before .before .before .before .args .t .now) (c .before .before .before .before .before .before .before .before .before .before .before .loop .k) (c .before .before .before .before .before .before .before .before .before .code-of .result) (c .before .before .before .before .before .before .before .before .before .code-of .ensures)))
-      (c .enum-told .given .1),
-)
+loop-again-2 c =
+    is-nested (c .before .before .before .before .before .before .before .args .t .now) (c .before .before .before .before .loop .k) (c .before .before .before .before .loop .found) (c .before .before .before .before .loop .inv) (omega (arith, c .before .before .before .before .before .count .ensures)) (c .before .before .check-chunk .result)
+          (c .before .before .check-chunk .ensures)
+          (c .enum-told .given .1)
 
+-- src/lib.rt:376:1
 returns-2 : tie.Need-returns-2 Inv-loop μ-loop
-returns-2 c = ends-well (c .before .before .before .before .args .t .now) (c .before .loop .k) (c .before .loop .found) (c .before .loop .inv .3) (omega (arith, c .before .before .count .ensures))
+returns-2 c = ends-well (c .before .before .before .before .args .t .now) (c .before .loop .k) (c .before .loop .found) (c .before .loop .inv) (omega (arith, c .before .before .count .ensures))
 
 pub check-nesting-spec : {M : Type 1} → statement M
 check-nesting-spec =
@@ -101,11 +99,7 @@ check-nesting-spec =
     μ-loop
     count-requires
     loop-holds
-    code-of-requires
-    slice-aggregate-check-code
-    slice-aggregate-check-code-2
-    slice-aggregate-check-code-3
-    check-code-requires
+    check-chunk-requires
     enum-known-r
     returns
     enum-known-r-2
