@@ -34,15 +34,14 @@ slice-write-targets c = search needs
 
 -- src/lib.rt:297:5
 loop-holds : tie.Need-loop-holds Inv-loop μ-loop
-loop-holds c =
-    (
-      omega arith,
-      omega arith,
-      search needs,
-      search needs,
-      search needs,
-      λ d C. start d (c .before .before .before .before .args .t .now) (c .before .before .before .before .args .code) C (c .before .before .before .before .args .middles .now) (c .before .before .before .before .args .closers .now) (c .before .before .before .before .args .targets .now) (omega arith) (omega arith) (omega arith),
-    )
+loop-holds c = (
+  omega arith,
+  omega arith,
+  search needs,
+  search needs,
+  search needs,
+  λ d C. start d (c .before .before .before .before .args .t .now) (c .before .before .before .before .args .code) C (c .before .before .before .before .args .middles .now) (c .before .before .before .before .args .closers .now) (c .before .before .before .before .args .targets .now) (omega arith) (omega arith) (omega arith),
+)
 
 -- src/lib.rt:298:13
 open-at-requires : tie.Need-open-at-requires Inv-loop μ-loop
@@ -88,16 +87,15 @@ loop-less c = search needs
 
 -- src/lib.rt:297:5
 loop-again : tie.Need-loop-again Inv-loop μ-loop
-loop-again c =
-    (
-      omega arith,
-      omega arith,
-      search needs,
-      search needs,
-      search needs,
-      stays (c .before .before .before .before .before .before .before .before .before .before .before .before .before .args .t .now) (c .before .before .before .before .before .before .before .before .before .before .before .before .before .args .code) (c .before .before .before .before .before .before .before .before .loop .middles) (c .before .before .before .before .before .before .before .before .loop .closers) (c .before .before .before .before .before .before .before .before .loop .targets) (c .before .before .before .before .before .before .before .before .loop .p) (c .before .before .before .before .before .before .before .before .loop .h) (c .before .before .before .before .before .before .before .before .loop .found) (c .before .before .before .before .before .before .before .before .loop .inv .5)
-          (c .before .before .before .open-at .result) (c .before .before .step-at .result) (c .before .before .before .open-at .ensures) (c .before .before .before .before .before .before .before .loop-test .taken) (c .before .before .step-at .ensures) (c .enum-told2 .given .1),
-    )
+loop-again c = (
+  omega arith,
+  omega arith,
+  search needs,
+  search needs,
+  search needs,
+  stays (c .before .before .before .before .before .before .before .before .before .before .before .before .before .args .t .now) (c .before .before .before .before .before .before .before .before .before .before .before .before .before .args .code) (c .before .before .before .before .before .before .before .before .loop .middles) (c .before .before .before .before .before .before .before .before .loop .closers) (c .before .before .before .before .before .before .before .before .loop .targets) (c .before .before .before .before .before .before .before .before .loop .p) (c .before .before .before .before .before .before .before .before .loop .h) (c .before .before .before .before .before .before .before .before .loop .found) (c .before .before .before .before .before .before .before .before .loop .inv .5)
+      (c .before .before .before .open-at .result) (c .before .before .step-at .result) (c .before .before .before .open-at .ensures) (c .before .before .before .before .before .before .before .loop-test .taken) (c .before .before .step-at .ensures) (c .enum-told2 .given .1),
+)
 
 -- src/lib.rt:307:20
 enum-told-3 : tie.Need-enum-told-3 Inv-loop μ-loop
@@ -135,16 +133,15 @@ loop-less-2 c = search needs
 
 -- src/lib.rt:297:5
 loop-again-2 : tie.Need-loop-again-2 Inv-loop μ-loop
-loop-again-2 c =
-    (
-      omega arith,
-      omega arith,
-      search needs,
-      search needs,
-      search needs,
-      pops (c .before .before .before .before .before .before .before .before .before .before .before .before .before .before .args .t .now) (c .before .before .before .before .before .before .before .before .before .before .before .before .before .before .args .code) (c .before .before .before .before .before .before .before .before .before .loop .middles) (c .before .before .before .before .before .before .before .before .before .loop .closers) (c .before .before .before .before .before .before .before .before .before .loop .targets) (c .before .before .before .before .before .before .before .before .before .loop .p) (c .before .before .before .before .before .before .before .before .before .loop .h) (c .before .before .before .before .before .before .before .before .before .loop .found) (c .before .before .before .before .before .before .before .before .before .loop .inv .5)
-          (c .before .before .before .before .open-at .result) (c .before .before .before .step-at .result) (c .before .before .before .before .open-at .ensures) (c .before .before .before .before .before .before .before .before .loop-test .taken) (c .before .before .before .step-at .ensures) (c .before .enum-told3 .given .1),
-    )
+loop-again-2 c = (
+  omega arith,
+  omega arith,
+  search needs,
+  search needs,
+  search needs,
+  pops (c .before .before .before .before .before .before .before .before .before .before .before .before .before .before .args .t .now) (c .before .before .before .before .before .before .before .before .before .before .before .before .before .before .args .code) (c .before .before .before .before .before .before .before .before .before .loop .middles) (c .before .before .before .before .before .before .before .before .before .loop .closers) (c .before .before .before .before .before .before .before .before .before .loop .targets) (c .before .before .before .before .before .before .before .before .before .loop .p) (c .before .before .before .before .before .before .before .before .before .loop .h) (c .before .before .before .before .before .before .before .before .before .loop .found) (c .before .before .before .before .before .before .before .before .before .loop .inv .5)
+      (c .before .before .before .before .open-at .result) (c .before .before .before .step-at .result) (c .before .before .before .before .open-at .ensures) (c .before .before .before .before .before .before .before .before .loop-test .taken) (c .before .before .before .step-at .ensures) (c .before .enum-told3 .given .1),
+)
 
 -- src/lib.rt:313:24
 enum-known-s : tie.Need-enum-known-s Inv-loop μ-loop
@@ -192,17 +189,16 @@ loop-less-3 c = search needs
 
 -- src/lib.rt:297:5
 loop-again-3 : tie.Need-loop-again-3 Inv-loop μ-loop
-loop-again-3 c =
-    (
-      omega arith,
-      omega arith,
-      search needs,
-      search needs,
-      search needs,
-      pushes (c .before .before .before .before .before .before .before .before .before .before .before .before .before .before .before .args .t .now) (c .before .before .before .before .before .before .before .before .before .before .before .before .before .before .before .args .code) (c .before .before .before .before .before .before .before .before .before .before .loop .middles) (c .before .before .before .before .before .before .before .before .before .before .loop .closers) (c .before .before .before .before .before .before .before .before .before .before .loop .targets) (c .before .before .before .before .before .before .before .before .before .before .loop .p) (c .before .before .before .before .before .before .before .before .before .before .loop .h) (c .before .before .before .before .before .before .before .before .before .before .loop .found) (c .before .before .before .before .before .before .before .before .before .before .loop .inv .5)
-          (c .before .before .before .before .before .open-at .result) (c .before .before .before .before .step-at .result) (c .before .before .before .before .before .open-at .ensures) (c .before .before .before .before .before .before .before .before .before .loop-test .taken) (c .before .before .before .before .step-at .ensures) _ (c .first-deep .result)
-          (c .before .before .s .given .1) (omega arith) (omega arith) (omega arith) (c .first-deep .ensures),
-    )
+loop-again-3 c = (
+  omega arith,
+  omega arith,
+  search needs,
+  search needs,
+  search needs,
+  pushes (c .before .before .before .before .before .before .before .before .before .before .before .before .before .before .before .args .t .now) (c .before .before .before .before .before .before .before .before .before .before .before .before .before .before .before .args .code) (c .before .before .before .before .before .before .before .before .before .before .loop .middles) (c .before .before .before .before .before .before .before .before .before .before .loop .closers) (c .before .before .before .before .before .before .before .before .before .before .loop .targets) (c .before .before .before .before .before .before .before .before .before .before .loop .p) (c .before .before .before .before .before .before .before .before .before .before .loop .h) (c .before .before .before .before .before .before .before .before .before .before .loop .found) (c .before .before .before .before .before .before .before .before .before .before .loop .inv .5)
+      (c .before .before .before .before .before .open-at .result) (c .before .before .before .before .step-at .result) (c .before .before .before .before .before .open-at .ensures) (c .before .before .before .before .before .before .before .before .before .loop-test .taken) (c .before .before .before .before .step-at .ensures) _ (c .first-deep .result)
+      (c .before .before .s .given .1) (omega arith) (omega arith) (omega arith) (c .first-deep .ensures),
+)
 
 -- src/lib.rt:277:1
 same-length-7 : tie.Need-same-length-7 Inv-loop μ-loop

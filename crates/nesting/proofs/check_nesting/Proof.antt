@@ -65,8 +65,8 @@ loop-less c = search needs
 loop-again : tie.Need-loop-again Inv-loop μ-loop
 loop-again c =
     is-deep (c .before .before .before .before .before .before .before .before .before .args .t .now) (c .before .before .before .before .before .before .loop .k) (c .before .before .before .before .before .before .loop .found) (c .before .before .before .before .before .before .loop .inv) (omega (arith, c .before .before .before .before .before .before .before .count .ensures)) (c .before .before .before .before .check-chunk .result)
-          (c .before .before .before .before .check-chunk .ensures)
-          _ (c .first-found .result) (c .before .before .r2 .given .1) (c .first-found .ensures)
+    (c .before .before .before .before .check-chunk .ensures)
+    _ (c .first-found .result) (c .before .before .r2 .given .1) (c .first-found .ensures)
 
 -- src/lib.rt:391:17
 enum-told : tie.Need-enum-told Inv-loop μ-loop
@@ -84,8 +84,8 @@ loop-less-2 c = search needs
 loop-again-2 : tie.Need-loop-again-2 Inv-loop μ-loop
 loop-again-2 c =
     is-nested (c .before .before .before .before .before .before .before .args .t .now) (c .before .before .before .before .loop .k) (c .before .before .before .before .loop .found) (c .before .before .before .before .loop .inv) (omega (arith, c .before .before .before .before .before .count .ensures)) (c .before .before .check-chunk .result)
-          (c .before .before .check-chunk .ensures)
-          (c .enum-told .given .1)
+    (c .before .before .check-chunk .ensures)
+    (c .enum-told .given .1)
 
 -- src/lib.rt:376:1
 returns-2 : tie.Need-returns-2 Inv-loop μ-loop
