@@ -1,10 +1,10 @@
 /* The typed check of Keleusma modules, for programs in C and C++: link target/staticlib/libstagecheck_c.a.
  *
- * One call decides a listing. It allocates nothing, reads and writes nothing but what is lent, keeps nothing between
+ * One call decides a listing; there are two, which differ in where the tables are. It allocates nothing, reads and writes nothing but what is lent, keeps nothing between
  * calls, and ends for every input. Calls from several threads are free of each other where what they lend is.
  * What the answer and the sheets are for each listing is proved (docs/PROMISES.md); what follows here in words is
- * document 01's. Stack of a call, measured: eight nested loops 1,284 KiB, eight nested Ifs 1,708 KiB (docs/BENCH.md);
- * allow 4 MiB. A call always ends, but loops in loops multiply its time: docs/BENCH.md.
+ * document 01's. Stack of a call, measured, tables included: eight nested loops 396 KiB, eight nested Ifs 280 KiB
+ * (docs/BENCH.md); allow 1 MiB. A call always ends, but loops in loops multiply its time: docs/BENCH.md.
  */
 #ifndef STAGECHECK_H
 #define STAGECHECK_H
