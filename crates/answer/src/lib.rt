@@ -1,55 +1,81 @@
 // The answer of the check: acceptance, or one of document 01's refusals with its values.
 ghost use mathlib.Core.Path.{_≡_};
 ghost use mathlib.Core.List.{_∷_, []};
-ghost use Rattle.answer.specs.Answer.{numbers, answerOf};
+ghost use Rattle.answer.specs.Answer.{numbers, refusal, is-none, answerOf};
 ghost use Rattle.answer.specs.Numbers.{values-of, row-of};
 
-// In the order of their numbers, 1 to 19, with the Rust's fields, after the chunk where there is one.
+pub mod limit;
+pub mod reason;
+
+// A fault, made where it is found: in the order of 01's numbers, 1 to 19, with the Rust's fields. The chunk stands beside it.
 pub enum Refusal {
     // 1: lines before the one that cannot follow
     CannotFollow(u64),
-    // 2: chunk, ip, limit
-    LimitPassed(u64, u64, u64),
-    // 3: chunk, ip
-    NotNested(u64, u64),
+    // 2: ip, limit
+    LimitPassed(u64, u64),
+    // 3: ip
+    NotNested(u64),
     // 4: instructions, the shorter length
     SheetTooShort(u64, u64),
-    // 5: chunk, ip
-    StackUnderflow(u64, u64),
-    // 6: chunk, ip, offset, need, size
-    OffsetOutOfBounds(u64, u64, u64, u64, u64),
-    // 7: chunk, ip
-    ExpectedComposite(u64, u64),
-    // 8: chunk, ip, baked, computed
-    NewCompositeSizeMismatch(u64, u64, u64, u64),
-    // 9: chunk, ip, offset
-    TextFieldMismatch(u64, u64, u64),
-    // 10: chunk, ip, then_height, else_height
-    BranchHeightMismatch(u64, u64, u64, u64),
-    // 11: chunk, ip, entry_height, exit_height
-    LoopNotNeutral(u64, u64, u64, u64),
-    // 12: chunk, ip, floor, available, required
-    LoopFloorBreach(u64, u64, u64, u64, u64),
-    // 13: chunk, ip, slot
-    LocalTypeMismatch(u64, u64, u64),
-    // 14: chunk, ip, callee, arg
-    CallArgMismatch(u64, u64, u64, u64),
-    // 15: chunk, ip, element_size, array_size
-    ArrayStrideMismatch(u64, u64, u64, u64),
+    // 5: ip
+    StackUnderflow(u64),
+    // 6: ip, offset, need, size
+    OffsetOutOfBounds(u64, u64, u64, u64),
+    // 7: ip
+    ExpectedComposite(u64),
+    // 8: ip, baked, computed
+    NewCompositeSizeMismatch(u64, u64, u64),
+    // 9: ip, offset
+    TextFieldMismatch(u64, u64),
+    // 10: ip, then_height, else_height
+    BranchHeightMismatch(u64, u64, u64),
+    // 11: ip, entry_height, exit_height
+    LoopNotNeutral(u64, u64, u64),
+    // 12: ip, floor, available, required
+    LoopFloorBreach(u64, u64, u64, u64),
+    // 13: ip, slot
+    LocalTypeMismatch(u64, u64),
+    // 14: ip, callee, arg
+    CallArgMismatch(u64, u64, u64),
+    // 15: ip, element_size, array_size
+    ArrayStrideMismatch(u64, u64, u64),
     // 16: slot, offset, size, buffer
     SharedSlotOutOfBounds(u64, u64, u64, u64),
-    // 17: chunk, ip, baked
-    EnumBodySizeMismatch(u64, u64, u64),
+    // 17: ip, baked
+    EnumBodySizeMismatch(u64, u64),
     // 18: index, slot, reason
     PrivateCompositeLayoutInvalid(u64, u64, u64),
     // 19: shared_slots, layout_len, reason
     SharedLayoutCountMismatch(u64, u64, u64),
 }
 
-// Acceptance with the number of chunks and of all instructions, or one refusal.
+// Of an instruction, or of a stretch of one chunk.
+pub enum Verdict {
+    Passed,
+    Refused(Refusal),
+}
+
+impl Verdict {
+    pub fn passed(self) -> bool
+        ensures { λ r. ⌜ r ≡ is-none (refusal self) ⌝ }
+    {
+        match self {
+            Verdict::Passed => true,
+            Verdict::Refused(_) => false,
+        }
+    }
+}
+
+// Of a test of the module: the chunk, 0 where there is none, and the refusal.
+pub enum Finding {
+    Nothing,
+    Refused(u64, Refusal),
+}
+
+// Acceptance with the number of chunks and of all instructions, or one refusal with its chunk.
 pub enum Answer {
     Accepted(u64, u64),
-    Refused(Refusal),
+    Refused(u64, Refusal),
 }
 
 // An answer's numbers: as many as count says, and zeros after them.
@@ -95,30 +121,30 @@ fn six(a: u64, b: u64, c: u64, d: u64, e: u64, f: u64) -> Numbers
 }
 
 impl Refusal {
-    // Its number, its chunk and its values.
-    pub fn numbers(self) -> Numbers
-        ensures { λ r. ⌜ r ≡ row-of (numbers self) ⌝ }
+    // Its number, the chunk and its values.
+    pub fn numbers(self, k: u64) -> Numbers
+        ensures { λ r. ⌜ r ≡ row-of (numbers k self) ⌝ }
     {
         match self {
-            Refusal::CannotFollow(n) => three(1, 0, n),
-            Refusal::LimitPassed(k, p, l) => four(2, k, p, l),
-            Refusal::NotNested(k, p) => three(3, k, p),
-            Refusal::SheetTooShort(n, l) => four(4, 0, n, l),
-            Refusal::StackUnderflow(k, p) => three(5, k, p),
-            Refusal::OffsetOutOfBounds(k, p, o, n, s) => six(6, k, p, o, n, s),
-            Refusal::ExpectedComposite(k, p) => three(7, k, p),
-            Refusal::NewCompositeSizeMismatch(k, p, b, c) => five(8, k, p, b, c),
-            Refusal::TextFieldMismatch(k, p, o) => four(9, k, p, o),
-            Refusal::BranchHeightMismatch(k, p, t, e) => five(10, k, p, t, e),
-            Refusal::LoopNotNeutral(k, p, e, x) => five(11, k, p, e, x),
-            Refusal::LoopFloorBreach(k, p, f, a, r) => six(12, k, p, f, a, r),
-            Refusal::LocalTypeMismatch(k, p, s) => four(13, k, p, s),
-            Refusal::CallArgMismatch(k, p, c, a) => five(14, k, p, c, a),
-            Refusal::ArrayStrideMismatch(k, p, e, a) => five(15, k, p, e, a),
-            Refusal::SharedSlotOutOfBounds(s, o, n, b) => six(16, 0, s, o, n, b),
-            Refusal::EnumBodySizeMismatch(k, p, b) => four(17, k, p, b),
-            Refusal::PrivateCompositeLayoutInvalid(i, s, r) => five(18, 0, i, s, r),
-            Refusal::SharedLayoutCountMismatch(s, n, r) => five(19, 0, s, n, r),
+            Refusal::CannotFollow(n) => three(1, k, n),
+            Refusal::LimitPassed(p, l) => four(2, k, p, l),
+            Refusal::NotNested(p) => three(3, k, p),
+            Refusal::SheetTooShort(n, l) => four(4, k, n, l),
+            Refusal::StackUnderflow(p) => three(5, k, p),
+            Refusal::OffsetOutOfBounds(p, o, n, s) => six(6, k, p, o, n, s),
+            Refusal::ExpectedComposite(p) => three(7, k, p),
+            Refusal::NewCompositeSizeMismatch(p, b, c) => five(8, k, p, b, c),
+            Refusal::TextFieldMismatch(p, o) => four(9, k, p, o),
+            Refusal::BranchHeightMismatch(p, t, e) => five(10, k, p, t, e),
+            Refusal::LoopNotNeutral(p, e, x) => five(11, k, p, e, x),
+            Refusal::LoopFloorBreach(p, f, a, r) => six(12, k, p, f, a, r),
+            Refusal::LocalTypeMismatch(p, s) => four(13, k, p, s),
+            Refusal::CallArgMismatch(p, c, a) => five(14, k, p, c, a),
+            Refusal::ArrayStrideMismatch(p, e, a) => five(15, k, p, e, a),
+            Refusal::SharedSlotOutOfBounds(s, o, n, b) => six(16, k, s, o, n, b),
+            Refusal::EnumBodySizeMismatch(p, b) => four(17, k, p, b),
+            Refusal::PrivateCompositeLayoutInvalid(i, s, r) => five(18, k, i, s, r),
+            Refusal::SharedLayoutCountMismatch(s, n, r) => five(19, k, s, n, r),
         }
     }
 }
@@ -130,7 +156,7 @@ impl Answer {
     {
         match self {
             Answer::Accepted(chunks, instructions) => three(0, chunks, instructions),
-            Answer::Refused(r) => r.numbers(),
+            Answer::Refused(k, r) => r.numbers(k),
         }
     }
 }

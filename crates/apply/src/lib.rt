@@ -1,15 +1,23 @@
 // The examination of one instruction: its tests in the Rust's order, the state after it, and whether a flat access met an unknown operand.
+use answer::Refusal;
+use answer::Verdict;
 use bytecode::Constant;
 use bytecode::Effect;
 use bytecode::Instr;
 use bytecode::WireShape;
+use bytecode::code;
+use rules::Ctx;
+use rules::Rule;
 use shapes::Built;
 use shapes::Count;
 use shapes::Packed;
 use shapes::Places;
 use shapes::Shape;
+use shapes::UNKNOWN_PLACES;
 use shapes::Value;
 use value_layout::Widths;
+use value_layout::composite;
+use value_layout::scalar;
 ghost use mathlib.Core.Path.{_≡_};
 ghost use mathlib.Core.Bool.{Bool, true, false, not, _&&_, _||_};
 ghost use mathlib.Core.List.{List, _∷_, _++_, [], map, reverse};
@@ -32,502 +40,9 @@ ghost use Rattle.shapes.specs.Text.{Means};
 ghost use Rattle.shapes.specs.Model.{valueOf, plainOf, placesOf, shapeOf};
 ghost use Rattle.frame.specs.Model.{valueAt, at, stateOf, stackOf, localsOf, Long};
 ghost use Rattle.frame.specs.declared.State.{State};
-ghost use Rattle.apply.specs.Answers.{refusal, is-none, resultOf, Of, Within, Examined};
-ghost use Rattle.apply.specs.Rules.{Looks, Otherwise, Rules, Roomed, Body, Stepped, passingOf, refusingOf, is-generic};
-
-// What an examination says: passed, or a refusal of the walk with the Rust's fields.
-pub enum Verdict {
-    Passed,
-    Limit(usize, u64),
-    StackUnderflow(usize),
-    OffsetOutOfBounds(usize, u64, u64, u64),
-    ExpectedComposite(usize),
-    NewCompositeSizeMismatch(usize, u64, u64),
-    TextFieldMismatch(usize, u64),
-    LoopFloorBreach(usize, usize, usize, usize),
-    LocalTypeMismatch(usize, u64),
-    CallArgMismatch(usize, u64, usize),
-    ArrayStrideMismatch(usize, u64, u64),
-    EnumBodySizeMismatch(usize, u64),
-}
-
-impl Verdict {
-    pub fn passed(self) -> bool
-        ensures { λ r. ⌜ r ≡ is-none (refusal self) ⌝ }
-    {
-        match self {
-            Verdict::Passed => true,
-            _ => false,
-        }
-    }
-}
-
-fn wide(x: u32) -> u64
-    ensures { λ r. ⌜ r ≡ x ⌝ }
-{
-    x as u64
-}
-
-fn index(x: u32) -> usize
-    ensures { λ r. ⌜ r ≡ x ⌝ }
-{
-    x as usize
-}
-
-// ---- the chunk under check
-
-// The numbers of one chunk, read once for all its instructions.
-pub struct Ctx {
-    pub chunk: usize,
-    pub locals: usize,
-    pub first: usize,
-    pub count: usize,
-    pub widths: Widths,
-    pub index_trap: u16,
-    pub host_trap: u16,
-}
-
-pub fn context(t: &[u64], k: usize) -> Ctx
-    requires { ⌜ k < 64 ⌝ }
-    ensures { λ r. ⌜ Of (now (t .entry)) k r ⌝ }
-{
-    let h = bytecode::header_at(t);
-    let code = bytecode::instructions_of(t, k);
-    let locals = bytecode::locals(t, k);
-    let address = value_layout::address_bytes(h.address_log);
-    let widths = Widths {
-        word: h.word,
-        float: h.float,
-        address: address,
-    };
-    Ctx {
-        chunk: k,
-        locals: locals,
-        first: code.first,
-        count: code.count,
-        widths: widths,
-        index_trap: h.index_trap,
-        host_trap: h.host_trap,
-    }
-}
-
-// ---- what a rule says
-
-// The rule of one instruction on one state: its own tests, and where they pass how many operands it takes, and how often it pushes a value and
-// numbers of kind 3 above it.
-pub struct Rule {
-    pub verdict: Verdict,
-    pub blind: bool,
-    pub take: usize,
-    pub value: Value,
-    pub times: u8,
-    pub ints: u8,
-}
-
-// The rule of an instruction without a test of its own.
-fn passing(take: usize, value: Value, times: u8, ints: u8) -> Rule
-    ensures { λ r. ⌜ r ≡ passingOf take value times ints ⌝ }
-{
-    Rule {
-        verdict: Verdict::Passed,
-        blind: false,
-        take: take,
-        value: value,
-        times: times,
-        ints: ints,
-    }
-}
-
-// A declared shape, as the walk holds it.
-fn from_wire(w: WireShape) -> Shape
-    ensures { λ r. ⌜ plainOf r ≡ declared-shape w ⌝ }
-{
-    match w {
-        WireShape::Unknown => Shape::Unknown,
-        WireShape::Scalar(k) => Shape::Scalar(k),
-        WireShape::Composite(k, n) => Shape::Composite(k, n),
-    }
-}
-
-pub fn wire_value(w: WireShape) -> Value
-    ensures { λ r. ⌜ valueOf r ≡ declared-shape w ⌝ }
-{
-    let shape = from_wire(w);
-    shapes::declared_value(shape)
-}
-
-// The shape of a constant of the pool.
-fn const_abs(c: Constant) -> Value
-    ensures { λ r. ⌜ valueOf r ≡ const-shape (constant-of c) ⌝ }
-{
-    let Constant::Kind(k) = c else {
-        return shapes::unknown_value();
-    };
-    if k <= 6 {
-        shapes::scalar_value(k)
-    } else {
-        shapes::unknown_value()
-    }
-}
-
-// ---- names without a test of their own
-
-fn constant(t: &[u64], chunk: usize, k: u32) -> Rule
-    requires { ⌜ chunk < 64 ⌝ }
-    ensures { λ r. ⌜ ((ip : ℕ) (s : AnyState) → Rules (chunkOf (now (t .entry)) chunk) ip (shaped (Const k)) s r) ⌝ }
-{
-    let c = bytecode::constant_at(t, chunk, index(k));
-    let v = const_abs(c);
-    passing(0, v, 1, 0)
-}
-
-// An element that the walk does not know, with its bounds outcome: GetDataIndexed and GetIndex Boxed.
-fn unknown_element() -> Rule
-    ensures { λ r. ⌜ ((c : Chunk) (ip : ℕ) (s : AnyState) → Rules c ip (shaped IndexBoxed) s r × ((a b : ℕ) → Rules c ip (shaped (GetDataIndexed a b)) s r)) ⌝ }
-{
-    let v = shapes::unknown_value();
-    passing(2, v, 1, 6)
-}
-
-fn set_data_indexed() -> Rule
-    ensures { λ r. ⌜ ((c : Chunk) (ip a b : ℕ) (s : AnyState) → Rules c ip (shaped (SetDataIndexed a b)) s r) ⌝ }
-{
-    let v = shapes::unknown_value();
-    passing(2, v, 0, 6)
-}
-
-fn bounds_check() -> Rule
-    ensures { λ r. ⌜ ((c : Chunk) (ip k : ℕ) (s : AnyState) → Rules c ip (shaped (BoundsCheck k)) s r) ⌝ }
-{
-    let v = shapes::unknown_value();
-    passing(0, v, 0, 5)
-}
-
-// IsEnum and IsStruct keep their operand and push a Bool.
-fn is_instance() -> Rule
-    ensures { λ r. ⌜ ((c : Chunk) (ip : ℕ) (s : AnyState) → ((a b d : ℕ) → Rules c ip (shaped (IsEnum a b d)) s r) × ((k : ℕ) → Rules c ip (shaped (IsStruct k)) s r)) ⌝ }
-{
-    let v = shapes::scalar_value(1);
-    passing(0, v, 1, 0)
-}
-
-// A yield takes the output, and the resume pushes the input.
-fn yields(t: &[u64], chunk: usize) -> Rule
-    ensures { λ r. ⌜ ((ip : ℕ) (s : AnyState) → Rules (chunkOf (now (t .entry)) chunk) ip (shaped Yield) s r) ⌝ }
-{
-    let v = wire_value(bytecode::sig_resume(t, chunk));
-    passing(1, v, 1, 0)
-}
-
-// A native call's count has 7 bits; the eighth says that a flag is pushed above the result.
-fn native(t: &[u64], k: u32, n: u32) -> Rule
-    ensures { λ r. ⌜ ((c : Chunk) (ip : ℕ) (s : AnyState) → c .natives ≡ nativesOf (now (t .entry)) → Rules c ip (shaped (Native k n)) s r) ⌝ }
-{
-    let v = wire_value(bytecode::native_shape(t, index(k)));
-    let m = index(n % 128);
-    if n < 128 {
-        passing(m, v, 1, 0)
-    } else {
-        passing(m, v, 1, 1)
-    }
-}
-
-// How many an instruction pushes: net and need together.
-fn produced(e: Effect) -> u8
-    requires { ⌜ ((p : ℕ) × (p < 256) × (e .net ≡ pos p -ℤ pos (e .need))) ⌝ }
-    ensures { λ r. ⌜ e .net ≡ pos r -ℤ pos (e .need) ⌝ }
-{
-    ((e.need as i64) + e.net) as u8
-}
-
-// Every other name takes what it needs and pushes unknowns.
-fn generic(e: Effect) -> Rule
-    requires { ⌜ ((p : ℕ) × (p < 256) × (e .net ≡ pos p -ℤ pos (e .need))) ⌝ }
-    ensures { λ r. ⌜ ((c : Chunk) (ip : ℕ) (i : AnyInstr) (s : AnyState) → is-generic i ≡ true → e .need ≡ need c i → e .net ≡ net c i → Rules c ip i s r) ⌝ }
-{
-    let v = shapes::unknown_value();
-    let n = produced(e);
-    passing(index(e.need), v, n, 0)
-}
-
-// ---- flat field reads
-
-// What a test of an operand says, and whether the operand is unknown.
-pub struct Read {
-    pub verdict: Verdict,
-    pub blind: bool,
-}
-
-// A flat access of what is no composite: of a scalar it is refused, and of an unknown it passes and is marked.
-fn not_composite(shape: Shape, ip: usize) -> Read
-    ensures { λ r. ⌜ Otherwise ip shape r ⌝ }
-{
-    let Shape::Scalar(_) = shape else {
-        return Read {
-            verdict: Verdict::Passed,
-            blind: true,
-        };
-    };
-    Read {
-        verdict: Verdict::ExpectedComposite(ip),
-        blind: false,
-    }
-}
-
-// A flat read from `at` to `end` of a composite.
-fn check_flat(v: Value, at: u64, end: u64, ip: usize) -> Read
-    ensures { λ r. ⌜ (refusal (r .verdict) ≡ field-test ip at end (valueOf v)) × (r .blind ≡ is-unknown (valueOf v)) ⌝ }
-{
-    let shape = v.shape;
-    let Shape::Composite(_, size) = shape else {
-        return not_composite(shape, ip);
-    };
-    let n = size as u64;
-    if end <= n {
-        Read {
-            verdict: Verdict::Passed,
-            blind: false,
-        }
-    } else {
-        Read {
-            verdict: Verdict::OffsetOutOfBounds(ip, at, end, n),
-            blind: false,
-        }
-    }
-}
-
-fn check_flat_scalar(v: Value, offset: u32, kind: u8, w: Widths, ip: usize) -> Read
-    ensures { λ r. ⌜ ((c : Chunk) → Wide w c → (refusal (r .verdict) ≡ field-test ip offset (offset + width c kind) (valueOf v)) × (r .blind ≡ is-unknown (valueOf v))) ⌝ }
-{
-    let at = wide(offset);
-    let end = at + wide(w.size_in_bytes(kind));
-    check_flat(v, at, end, ip)
-}
-
-fn check_flat_nested(v: Value, offset: u32, size: u32, ip: usize) -> Read
-    ensures { λ r. ⌜ (refusal (r .verdict) ≡ field-test ip offset (offset + size) (valueOf v)) × (r .blind ≡ is-unknown (valueOf v)) ⌝ }
-{
-    let at = wide(offset);
-    let end = at + wide(size);
-    check_flat(v, at, end, ip)
-}
-
-// A text read at an offset of a body whose places are known to be elsewhere.
-fn check_text_field(v: Value, offset: u32, kind: u8, ip: usize) -> Verdict
-    ensures { λ r. ⌜ refusal r ≡ test-if (eqb kind 6) (text-field-test ip offset (valueOf v)) ⌝ }
-{
-    if kind != 6 {
-        return Verdict::Passed;
-    }
-    let shape = v.shape;
-    let Shape::Composite(_, _) = shape else {
-        return Verdict::Passed;
-    };
-    let n = v.known;
-    if 16 < n {
-        return Verdict::Passed;
-    }
-    let p = v.places;
-    if shapes::contains(offset, n, p) {
-        Verdict::Passed
-    } else {
-        Verdict::TextFieldMismatch(ip, wide(offset))
-    }
-}
-
-// The rule where a test refuses.
-fn refusing(verdict: Verdict, blind: bool, v: Value) -> Rule
-    ensures { λ r. ⌜ r ≡ refusingOf verdict blind v ⌝ }
-{
-    Rule {
-        verdict: verdict,
-        blind: blind,
-        take: 0,
-        value: v,
-        times: 0,
-        ints: 0,
-    }
-}
-
-// GetField, GetTupleField and GetEnumField, Flat; v is the top operand.
-fn get_flat(v: Value, offset: u32, kind: u8, w: Widths, ip: usize) -> Rule
-    ensures { λ r. ⌜ ((c : Chunk) (o : Owner) (s : AnyState) → Wide w c → valueOf v ≡ getD (s .stack) 0 unknown → Rules c ip (GetFlat o (Flat offset kind)) s r) ⌝ }
-{
-    let f = check_flat_scalar(v, offset, kind, w, ip);
-    let verdict = f.verdict;
-    if verdict.passed() {
-        let text = check_text_field(v, offset, kind, ip);
-        let x = shapes::scalar_value(kind);
-        return Rule {
-            verdict: text,
-            blind: f.blind,
-            take: 1,
-            value: x,
-            times: 1,
-            ints: 0,
-        };
-    }
-    refusing(verdict, f.blind, v)
-}
-
-// The three field reads, FlatNested.
-fn get_flat_nested(v: Value, offset: u32, size: u32, kind: u8, ip: usize) -> Rule
-    ensures { λ r. ⌜ ((c : Chunk) (o : Owner) (s : AnyState) → valueOf v ≡ getD (s .stack) 0 unknown → Rules c ip (GetFlat o (FlatNested offset size kind)) s r) ⌝ }
-{
-    let f = check_flat_nested(v, offset, size, ip);
-    let verdict = f.verdict;
-    if verdict.passed() {
-        let p = v.nested_text_layout(offset, size);
-        let x = shapes::composite_value(kind, size, p);
-        return Rule {
-            verdict: Verdict::Passed,
-            blind: f.blind,
-            take: 1,
-            value: x,
-            times: 1,
-            ints: 0,
-        };
-    }
-    refusing(verdict, f.blind, v)
-}
-
-// ---- flat indices
-
-// Elements of some bytes of an array.
-fn check_flat_array_stride(v: Value, element: u32, ip: usize) -> Read
-    ensures { λ r. ⌜ (refusal (r .verdict) ≡ index-test ip element (valueOf v)) × (r .blind ≡ is-unknown (valueOf v)) ⌝ }
-{
-    let shape = v.shape;
-    let Shape::Composite(_, n) = shape else {
-        return not_composite(shape, ip);
-    };
-    if element == 0 {
-        return Read {
-            verdict: Verdict::Passed,
-            blind: false,
-        };
-    }
-    if n % element == 0 {
-        Read {
-            verdict: Verdict::Passed,
-            blind: false,
-        }
-    } else {
-        Read {
-            verdict: Verdict::ArrayStrideMismatch(ip, wide(element), wide(n)),
-            blind: false,
-        }
-    }
-}
-
-// The first of `count` elements that is no text place.
-fn text_elements(ip: usize, element: u32, count: u32, n: u8, ps: [u32; 16]) -> Verdict
-    requires { ⌜ (n ≤ 16) × (count * element < 4294967296) ⌝ }
-    ensures { λ r. ⌜ refusal r ≡ text-elements ip element 0 count (take n ps) ⌝ }
-{
-    let mut i: u32 = 0;
-    let mut at: u32 = 0;
-    while i < count {
-        if shapes::contains(at, n, ps) {
-            at = shapes::saturating_add(at, element);
-            i += 1;
-        } else {
-            return Verdict::TextFieldMismatch(ip, wide(at));
-        }
-    }
-    Verdict::Passed
-}
-
-fn check_text_elements(v: Value, element: u32, kind: u8, ip: usize) -> Verdict
-    ensures { λ r. ⌜ refusal r ≡ test-if (eqb kind 6 && ltb 0 element) (text-index-test ip element (valueOf v)) ⌝ }
-{
-    if kind != 6 {
-        return Verdict::Passed;
-    }
-    if element == 0 {
-        return Verdict::Passed;
-    }
-    let shape = v.shape;
-    let Shape::Composite(_, m) = shape else {
-        return Verdict::Passed;
-    };
-    let n = v.known;
-    if 16 < n {
-        return Verdict::Passed;
-    }
-    let p = v.places;
-    text_elements(ip, element, m / element, n, p)
-}
-
-// How many numbers a bounds outcome pushes above an element of this kind.
-fn bounds_outcome(kind: u8) -> u8
-    ensures { λ r. ⌜ r ≡ choose (eqb kind 2 || eqb kind 3) 6 0 ⌝ }
-{
-    if kind == 2 {
-        return 6;
-    }
-    if kind == 3 { 6 } else { 0 }
-}
-
-// GetIndex Flat; v is the array, under the index number.
-fn get_index(v: Value, kind: u8, w: Widths, ip: usize) -> Rule
-    ensures { λ r. ⌜ ((c : Chunk) (s : AnyState) → Wide w c → valueOf v ≡ getD (s .stack) 1 unknown → Rules c ip (GetIndex (ElemFlat kind)) s r) ⌝ }
-{
-    let element = w.size_in_bytes(kind);
-    let f = check_flat_array_stride(v, element, ip);
-    let verdict = f.verdict;
-    if verdict.passed() {
-        let text = check_text_elements(v, element, kind, ip);
-        let x = shapes::scalar_value(kind);
-        let n = bounds_outcome(kind);
-        return Rule {
-            verdict: text,
-            blind: f.blind,
-            take: 2,
-            value: x,
-            times: 1,
-            ints: n,
-        };
-    }
-    refusing(verdict, f.blind, v)
-}
-
-// GetIndex FlatNested.
-fn get_index_nested(v: Value, size: u32, kind: u8, ip: usize) -> Rule
-    ensures { λ r. ⌜ ((c : Chunk) (s : AnyState) → valueOf v ≡ getD (s .stack) 1 unknown → Rules c ip (GetIndex (ElemNested size kind)) s r) ⌝ }
-{
-    let f = check_flat_array_stride(v, size, ip);
-    let verdict = f.verdict;
-    if verdict.passed() {
-        let p = v.element_text_layout(size);
-        let x = shapes::composite_value(kind, size, p);
-        return Rule {
-            verdict: Verdict::Passed,
-            blind: f.blind,
-            take: 2,
-            value: x,
-            times: 1,
-            ints: 6,
-        };
-    }
-    refusing(verdict, f.blind, v)
-}
-
-// ---- new composites
-
-// An enum's body has the size of one that is declared; without an enum form every size passes.
-fn check_enum_size(t: &[u64], size: u32, ip: usize) -> Verdict
-    ensures { λ r. ⌜ refusal r ≡ enum-test ip size (enum-sizesOf (now (t .entry))) ⌝ }
-{
-    if bytecode::count(t, 4) == 0 {
-        return Verdict::Passed;
-    }
-    if bytecode::has_enum_size(t, size) {
-        Verdict::Passed
-    } else {
-        Verdict::EnumBodySizeMismatch(ip, wide(size))
-    }
-}
+ghost use Rattle.answer.specs.Answer.{refusal, is-none};
+ghost use Rattle.rules.specs.Answers.{resultOf, Of, Within, Examined};
+ghost use Rattle.rules.specs.Rules.{Looks, Otherwise, Rules, Roomed, Body, Stepped, passingOf, refusingOf, is-generic};
 
 // The baked size against the bytes of the n operands, where they are known.
 fn check_packed_size(
@@ -548,29 +63,11 @@ fn check_packed_size(
     if b == size {
         return Verdict::Passed;
     }
-    Verdict::NewCompositeSizeMismatch(ip, wide(size), wide(b))
-}
-
-// The composite with the text places that were built; over sixteen are refused (limit 6).
-fn new_body(b: Built, kind: u8, n: usize, size: u32, ip: usize) -> Rule
-    ensures { λ r. ⌜ ((t : Option (List ℕ)) → Means b t → Body ip kind n size t r) ⌝ }
-{
-    let count = b.count;
-    let q = b.places;
-    match count {
-        Count::Many => {
-            let v = shapes::unknown_value();
-            refusing(Verdict::Limit(ip, 6), false, v)
-        }
-        Count::Known(m) => {
-            let x = shapes::composite_value(kind, size, Places { count: m, at: q });
-            passing(n, x, 1, 0)
-        }
-        Count::Open => {
-            let x = shapes::composite_value(kind, size, Places { count: 255, at: q });
-            passing(n, x, 1, 0)
-        }
-    }
+    Verdict::Refused(Refusal::NewCompositeSizeMismatch(
+        ip as u64,
+        rules::wide(size),
+        rules::wide(b),
+    ))
 }
 
 // NewComposite Flat over the n top operands.
@@ -588,10 +85,10 @@ fn new_flat(
     requires { ⌜ Long (now slots) (now places) × (n ≤ height) × (height ≤ 64) ⌝ }
     ensures { λ r. ⌜ ((c : Chunk) (locals : ℕ) → Wide w c → c .enum-sizes ≡ enum-sizesOf (now (t .entry)) → Rules c ip (NewFlat kind n size) (stateOf locals (at height (now (slots .entry)) (now (places .entry)))) r) ⌝ }
 {
-    if kind == 3 {
-        let verdict = check_enum_size(t, size, ip);
+    if kind == composite::ENUM {
+        let verdict = rules::check_enum_size(t, size, ip);
         let open = Places {
-            count: 255,
+            count: UNKNOWN_PLACES,
             at: [0u32; 16],
         };
         let x = shapes::composite_value(kind, size, open);
@@ -607,37 +104,10 @@ fn new_flat(
     let sized = check_packed_size(slots, height, n, size, w, ip);
     if sized.passed() {
         let b = frame::built_text_layout(slots, places, height, n, w);
-        return new_body(b, kind, n, size, ip);
+        return rules::new_body(b, kind, n, size, ip);
     }
     let v = shapes::unknown_value();
-    refusing(sized, false, v)
-}
-
-// ---- calls and locals
-
-// Whether a value's shape fits a declared one.
-fn shapes_compatible(value: Shape, declared: Shape) -> bool
-    ensures { λ r. ⌜ ((t u : Option (List ℕ)) → r ≡ fits-declared (shapeOf value t) (shapeOf declared u)) ⌝ }
-{
-    match value {
-        Shape::Unknown => true,
-        Shape::Scalar(_) => match declared {
-            Shape::Unknown => true,
-            Shape::Scalar(_) => true,
-            Shape::Composite(_, _) => false,
-        },
-        Shape::Composite(k, n) => match declared {
-            Shape::Unknown => true,
-            Shape::Scalar(_) => false,
-            Shape::Composite(j, m) => k == j && n == m,
-        },
-    }
-}
-
-fn least(a: usize, b: usize) -> usize
-    ensures { λ r. ⌜ r ≡ min a b ⌝ }
-{
-    if a <= b { a } else { b }
+    rules::refusing(sized, false, v)
 }
 
 // The first of the n top operands, in the order of the parameters, that does not fit its own.
@@ -653,17 +123,21 @@ fn check_args(
     requires { ⌜ Long (now slots) (now places) × (n ≤ height) × (height ≤ 64) ⌝ }
     ensures { λ r. ⌜ refusal r ≡ args-test ip callee 0 (reverse (take n (stackOf (at height (now (slots .entry)) (now (places .entry)))))) (getD (sigsOf (now (t .entry))) callee no-sig .params) ⌝ }
 {
-    let k = index(callee);
-    let m = least(n, bytecode::sig_params(t, k));
+    let k = rules::index(callee);
+    let m = bytecode::least(n, bytecode::sig_params(t, k));
     let mut arg = 0;
     while arg < m {
         let v = frame::operand(slots, places, height, n - 1 - arg);
         let shape = v.shape;
-        let declared = from_wire(bytecode::sig_param(t, k, arg));
-        if shapes_compatible(shape, declared) {
+        let declared = rules::from_wire(bytecode::sig_param(t, k, arg));
+        if rules::shapes_compatible(shape, declared) {
             arg += 1;
         } else {
-            return Verdict::CallArgMismatch(ip, wide(callee), arg);
+            return Verdict::Refused(Refusal::CallArgMismatch(
+                ip as u64,
+                rules::wide(callee),
+                arg as u64,
+            ));
         }
     }
     Verdict::Passed
@@ -682,7 +156,7 @@ fn call(
     ensures { λ r. ⌜ ((c : Chunk) (locals : ℕ) → c .sigs ≡ sigsOf (now (t .entry)) → Rules c ip (Call callee n) (stateOf locals (at height (now (slots .entry)) (now (places .entry)))) r) ⌝ }
 {
     let verdict = check_args(t, slots, places, height, callee, n, ip);
-    let x = wire_value(bytecode::sig_return(t, index(callee)));
+    let x = rules::wire_value(bytecode::sig_return(t, rules::index(callee)));
     Rule {
         verdict: verdict,
         blind: false,
@@ -718,9 +192,9 @@ fn set_local(
 {
     let v = frame::operand(slots, places, height, 0);
     let shape = v.shape;
-    let declared = from_wire(bytecode::sig_param(t, x.chunk, index(k)));
-    if shapes_compatible(shape, declared) {
-        frame::set_local(slots, places, index(k), v, x.locals);
+    let declared = rules::from_wire(bytecode::sig_param(t, x.chunk, rules::index(k)));
+    if rules::shapes_compatible(shape, declared) {
+        frame::set_local(slots, places, rules::index(k), v, x.locals);
         return Step {
             verdict: Verdict::Passed,
             blind: false,
@@ -728,34 +202,10 @@ fn set_local(
         };
     }
     Step {
-        verdict: Verdict::LocalTypeMismatch(ip, wide(k)),
+        verdict: Verdict::Refused(Refusal::LocalTypeMismatch(ip as u64, rules::wide(k))),
         blind: false,
         height: height,
     }
-}
-
-fn count(n: u8) -> usize
-    ensures { λ r. ⌜ (r ≡ n) × (r < 256) ⌝ }
-{
-    n as usize
-}
-
-// A rule's own tests, then limit 5: whether 64 operands are enough for what it pushes.
-fn check_room(r: Rule, height: usize, ip: usize) -> Verdict
-    requires { ⌜ (refusal (r .verdict) ≡ none → r .take ≤ height) × (height ≤ 64) ⌝ }
-    ensures { λ q. ⌜ Roomed r height ip q ⌝ }
-{
-    let verdict = r.verdict;
-    if verdict.passed() {} else {
-        return verdict;
-    }
-    let take = r.take;
-    let times = count(r.times);
-    let ints = count(r.ints);
-    if 64 < height - take + times + ints {
-        return Verdict::Limit(ip, 5);
-    }
-    Verdict::Passed
 }
 
 // ---- one instruction
@@ -765,13 +215,13 @@ fn looks_at(code: u8, a: u32, height: usize, locals: usize) -> usize
     requires { ⌜ (height ≤ 64) × (locals ≤ 32) ⌝ }
     ensures { λ r. ⌜ (r < 96) × ((s : State) → s .height ≡ height → Looks code a locals s (valueAt (s .slots) (s .places) r)) ⌝ }
 {
-    if code == 1 {
+    if code == code::GET_LOCAL {
         return local_slot(a, locals);
     }
-    if code == 10 {
+    if code == code::GET_INDEX_FLAT {
         return operand_slot(height, 2);
     }
-    if code == 11 {
+    if code == code::GET_INDEX_FLAT_NESTED {
         return operand_slot(height, 2);
     }
     operand_slot(height, 1)
@@ -781,7 +231,7 @@ fn local_slot(a: u32, locals: usize) -> usize
     requires { ⌜ locals ≤ 32 ⌝ }
     ensures { λ r. ⌜ (r < 96) × (a < locals → r ≡ 64 + a) ⌝ }
 {
-    let i = index(a);
+    let i = rules::index(a);
     if i < locals { 64 + i } else { 0 }
 }
 
@@ -791,51 +241,6 @@ fn operand_slot(height: usize, n: usize) -> usize
     ensures { λ r. ⌜ (r < 96) × (n ≤ height → r ≡ height - n) ⌝ }
 {
     if n <= height { height - n } else { 0 }
-}
-
-// A local of so many, where v is that local if there is one.
-fn get_local(v: Value, k: u32, locals: usize) -> Rule
-    ensures { λ r. ⌜ ((c : Chunk) (ip : ℕ) (s : State) → (k < locals → valueOf v ≡ getD (localsOf locals s) k unknown) → Rules c ip (shaped (GetLocal k)) (stateOf locals s) r) ⌝ }
-{
-    if index(k) < locals {
-        return passing(0, v, 1, 0);
-    }
-    let u = shapes::unknown_value();
-    passing(0, u, 1, 0)
-}
-
-fn dup(v: Value) -> Rule
-    ensures { λ r. ⌜ ((c : Chunk) (ip : ℕ) (s : AnyState) → valueOf v ≡ getD (s .stack) 0 unknown → Rules c ip (shaped Dup) s r) ⌝ }
-{
-    passing(0, v, 1, 0)
-}
-
-// The rule of every name but SetLocal, Call and NewComposite Flat, where v is what it looks at.
-fn rule_by(t: &[u64], x: Ctx, i: Instr, e: Effect, v: Value, ip: usize) -> Rule
-    requires { ⌜ Of (now t) (x .chunk) x ⌝ }
-    requires { ⌜ Within i × (i .code ≡ 5 → ⊥) × (i .code ≡ 49 → ⊥) × (i .code ≡ 52 → ⊥) × Effect-is i (x .«index_trap») (x .«host_trap») e ⌝ }
-    ensures { λ r. ⌜ ((s : State) → Looks (i .code) (i .a) (x .locals) s (valueOf v) → e .need ≤ s .height → s .height ≤ 64 → Rules (chunkOf (now (t .entry)) (x .chunk)) ip (instrOf i) (stateOf (x .locals) s) r) ⌝ }
-{
-    let code = i.code;
-    let w = x.widths;
-    match code {
-        0 => constant(t, x.chunk, i.a),
-        1 => get_local(v, i.a, x.locals),
-        4 => dup(v),
-        7 | 12 => unknown_element(),
-        8 => set_data_indexed(),
-        9 => bounds_check(),
-        10 => get_index(v, i.a as u8, w, ip),
-        11 => get_index_nested(v, i.a, i.b as u8, ip),
-        36 | 39 | 42 => get_flat(v, i.a, i.b as u8, w, ip),
-        37 | 40 | 43 => get_flat_nested(v, i.a, i.b, i.c as u8, ip),
-        46 => yields(t, x.chunk),
-        47 => is_instance(),
-        48 => is_instance(),
-        50 => native(t, i.a, i.b),
-        51 => native(t, i.a, i.b),
-        _ => generic(e),
-    }
 }
 
 // The rule of every name but SetLocal.
@@ -853,17 +258,17 @@ fn rule_of(
     requires { ⌜ Long (now slots) (now places) × Within i × (i .code ≡ 5 → ⊥) × Effect-is i (x .«index_trap») (x .«host_trap») e × (e .need ≤ height) × (height ≤ 64) ⌝ }
     ensures { λ r. ⌜ Rules (chunkOf (now (t .entry)) (x .chunk)) ip (instrOf i) (stateOf (x .locals) (at height (now (slots .entry)) (now (places .entry)))) r ⌝ }
 {
-    if i.code == 49 {
-        return call(t, slots, places, height, i.a, index(i.b), ip);
+    if i.code == code::CALL {
+        return call(t, slots, places, height, i.a, rules::index(i.b), ip);
     }
-    if i.code == 52 {
+    if i.code == code::NEW_COMPOSITE_FLAT {
         return new_flat(
             t,
             slots,
             places,
             height,
             i.a as u8,
-            index(i.b),
+            rules::index(i.b),
             i.c,
             x.widths,
             ip,
@@ -871,17 +276,7 @@ fn rule_of(
     }
     let k = looks_at(i.code, i.a, height, x.locals);
     let v = frame::value_at(slots, places, k);
-    rule_by(t, x, i, e, v, ip)
-}
-
-fn is_unknown(v: Value) -> bool
-    ensures { λ r. ⌜ r ≡ is-unknown (valueOf v) ⌝ }
-{
-    let shape = v.shape;
-    match shape {
-        Shape::Unknown => true,
-        _ => false,
-    }
+    rules::rule_by(t, x, i, e, v, ip)
 }
 
 // Whether an instruction is a flat access of an unknown operand, one that is missing included.
@@ -891,41 +286,20 @@ fn met_unknown(slots: &[u64; 96], places: &[u32; 1536], i: Instr, height: usize)
 {
     let code = i.code;
     match code {
-        10 => is_unknown(frame::operand(slots, places, height, 1)),
-        11 => is_unknown(frame::operand(slots, places, height, 1)),
-        36 | 39 | 42 => is_unknown(frame::operand(slots, places, height, 0)),
-        37 | 40 | 43 => is_unknown(frame::operand(slots, places, height, 0)),
+        code::GET_INDEX_FLAT => rules::is_unknown(frame::operand(slots, places, height, 1)),
+        code::GET_INDEX_FLAT_NESTED => rules::is_unknown(frame::operand(slots, places, height, 1)),
+        code::GET_FIELD_FLAT | code::GET_TUPLE_FIELD_FLAT | code::GET_ENUM_FIELD_FLAT =>
+            rules::is_unknown(frame::operand(slots, places, height, 0)),
+        code::GET_FIELD_FLAT_NESTED
+        | code::GET_TUPLE_FIELD_FLAT_NESTED
+        | code::GET_ENUM_FIELD_FLAT_NESTED => rules::is_unknown(frame::operand(
+            slots,
+            places,
+            height,
+            0,
+        )),
         _ => false,
     }
-}
-
-// 12, before every rule: the operands from the floor up are the loop's own.
-fn check_floor(height: usize, need: usize, floor: usize, ip: usize) -> Verdict
-    requires { ⌜ (floor ≤ 64) × (need < 4294967296) ⌝ }
-    ensures { λ r. ⌜ refusal r ≡ floor-test ip floor height need ⌝ }
-{
-    if floor == 0 {
-        return Verdict::Passed;
-    }
-    if height < floor + need {
-        return Verdict::LoopFloorBreach(ip, floor, height, need);
-    }
-    Verdict::Passed
-}
-
-// 12 and 5, before every rule.
-pub fn check_need(height: usize, need: usize, floor: usize, ip: usize) -> Verdict
-    requires { ⌜ (floor ≤ 64) × (need < 4294967296) ⌝ }
-    ensures { λ r. ⌜ (refusal r ≡ first (floor-test ip floor height need) (need-test ip height need)) × (refusal r ≡ none → need ≤ height) ⌝ }
-{
-    let verdict = check_floor(height, need, floor, ip);
-    if verdict.passed() {} else {
-        return verdict;
-    }
-    if height < need {
-        return Verdict::StackUnderflow(ip);
-    }
-    Verdict::Passed
 }
 
 // The instruction's own tests, and its effect.
@@ -943,11 +317,11 @@ fn apply_op(
     requires { ⌜ Long (now slots) (now places) × Within i × Effect-is i (x .«index_trap») (x .«host_trap») e × (e .need ≤ height) × (height ≤ 64) ⌝ }
     ensures { λ r. ⌜ Long (now (slots .exit)) (now (places .exit)) × Stepped (chunkOf (now (t .entry)) (x .chunk)) (x .locals) ip (instrOf i) (stateOf (x .locals) (at height (now (slots .entry)) (now (places .entry)))) (r .verdict) (r .blind) (at (r .height) (now (slots .exit)) (now (places .exit))) ⌝ }
 {
-    if i.code == 5 {
+    if i.code == code::SET_LOCAL {
         return set_local(t, slots, places, x, height, i.a, ip);
     }
     let r = rule_of(t, slots, places, x, i, e, height, ip);
-    let verdict = check_room(r, height, ip);
+    let verdict = rules::check_room(r, height, ip);
     if verdict.passed() {} else {
         return Step {
             verdict: verdict,
@@ -957,9 +331,9 @@ fn apply_op(
     }
     let v = r.value;
     let take = r.take;
-    let times = count(r.times);
-    let ints = count(r.ints);
-    let int = shapes::scalar_value(3);
+    let times = rules::count(r.times);
+    let ints = rules::count(r.ints);
+    let int = shapes::scalar_value(scalar::INT);
     let after = frame::replace(slots, places, height, take, v, times, int, ints);
     Step {
         verdict: Verdict::Passed,
@@ -984,7 +358,7 @@ pub fn examine(
     ensures { λ r. ⌜ Long (now (slots .exit)) (now (places .exit)) × Examined (now (t .entry)) x i ip floor (at height (now (slots .entry)) (now (places .entry))) (r .verdict) (r .blind) (at (r .height) (now (slots .exit)) (now (places .exit))) ⌝ }
 {
     let e = bytecode::op_depth_effect(i, x.index_trap, x.host_trap);
-    let verdict = check_need(height, index(e.need), floor, ip);
+    let verdict = rules::check_need(height, rules::index(e.need), floor, ip);
     if verdict.passed() {
         return apply_op(t, slots, places, x, i, e, height, ip);
     }

@@ -19,13 +19,13 @@ use Rattle.frame.specs.declared.State.{State}
 use Rattle.frame.specs.Model.{stateOf, stackOf, popped}
 use Rattle.frame.proofs.Stores.{pop-law}
 use Rattle.bytecode.specs.Meaning.{first-op}
-use Rattle.apply.specs.Answers.{is-none, refusal}
-use Rattle.apply.specs.Rules.{own-tests}
-use Rattle.apply.specs.declared.Verdict.{Verdict}
+use Rattle.answer.specs.Answer.{is-none, refusal, fields}
+use Rattle.rules.specs.Rules.{own-tests}
+use Rattle.answer.specs.declared.Verdict.{Verdict}
 use Rattle.blocks.specs.Visits.{StepIn}
-use Rattle.apply.specs.declared.Ctx.{Ctx}
-use Rattle.apply.proofs.Tests.{is-none-eq}
-use Rattle.apply.proofs.Steps.{examine-step, examine-stop}
+use Rattle.rules.specs.declared.Ctx.{Ctx}
+use Rattle.rules.proofs.Tests.{is-none-eq}
+use Rattle.rules.proofs.Steps.{examine-step, examine-stop}
 use Rattle.blocks.specs.Visits.{chunkIn, instrIn, Examined, markIn, Guarded}
 use Rattle.stretch.specs.Stretch.{sheetsOf}
 use Rattle.blocks.proofs.Laws.{height-is, marked}

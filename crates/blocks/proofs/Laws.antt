@@ -20,7 +20,7 @@ use Rattle.definition.specs.Effects.{set-local}
 use Rattle.definition.specs.Tests.{is-blind, reading}
 use Rattle.definition.specs.Walk.{mark, mark-blind, forget-one, names-local, forget, with-locals}
 use Rattle.bytecode.specs.Meaning.{first-op, chunk-base}
-use Rattle.apply.specs.declared.Ctx.{Ctx}
+use Rattle.rules.specs.declared.Ctx.{Ctx}
 use Rattle.blocks.specs.Visits.{chunkIn, instrIn, markIn}
 use Rattle.stretch.specs.Stretch.{leads}
 use Rattle.stretch.specs.Stretch.{sheetsOf}
@@ -33,8 +33,11 @@ use Rattle.frame.specs.declared.State.{State}
 use Rattle.frame.specs.Model.{stateOf, stackOf, localsOf}
 use Rattle.shapes.proofs.Lists.{down-length}
 use Rattle.blocks.specs.Outcomes.{numbers, pendingOf, breaksOf, flowOf, walkedOf, leavingOf, leftOf, fallOf, meets, after-last, Open}
-use Rattle.blocks.specs.declared.Refusal.{Refusal}
-use Rattle.blocks.specs.declared.Refusal.the-variants.{BranchHeightMismatch, LoopNotNeutral}
+use Rattle.rules.specs.Answers.{values-of}
+use Rattle.answer.specs.Answer.{refusal, fields}
+use Rattle.answer.specs.declared.Verdict.{Verdict}
+use Rattle.answer.specs.declared.Verdict.the-variants.{Refused as Fault}
+use Rattle.answer.specs.declared.Refusal.the-variants.{BranchHeightMismatch, LoopNotNeutral}
 use Rattle.blocks.specs.declared.Flow.{Flow}
 use Rattle.blocks.specs.declared.Flow.the-variants.{Refused, Ended, Falls}
 use Rattle.blocks.specs.declared.Leaving.the-variants.{Stopped, After}
@@ -138,9 +141,9 @@ module _ (locals ip : ℕ) (a b : OutcomeIn) (sh : Sheets) where
       ∙ ap (λ (t : Bool). join-tested t ip (stateOf locals (a .state)) (stateOf locals (b .state)) >>= λ (k : Option AnyState). ok (record { fall = k; breaks = breaksOf locals (b .breaks); sheets = sh }))
       (sym (same-height locals (a .state) (b .state) h))
 
-  pub join-unequal : (r : OutcomeIn) → r .flow ≡ Refused (BranchHeightMismatch ip (a .state .height) (b .state .height)) → a .state .height ≢ b .state .height →
+  pub join-unequal : (r : OutcomeIn) → r .flow ≡ Refused (Fault (BranchHeightMismatch ip (a .state .height) (b .state .height))) → a .state .height ≢ b .state .height →
       walkedOf locals r sh ≡ meets ip (some (stateOf locals (a .state))) (some (stateOf locals (b .state))) (breaksOf locals (b .breaks)) sh
-  unfolding meets join-ends join-tested flowOf numbers _>>=_
+  unfolding meets join-ends join-tested flowOf numbers values-of refusal fields _>>=_
   join-unequal r x h =
       ap (flowOf locals r sh) x
       ∙ ap (λ (n : ℕ). refused (10 ∷ ip ∷ n ∷ b .state .height ∷ [])) (sym (height-is locals (a .state)))
@@ -172,7 +175,7 @@ module _ (locals ip : ℕ) (o : OutcomeIn) (head : State) (sh : Sheets) where
   last-at : {f : Flow} → o .flow ≡ f → after-last ip (stateOf locals head) (flowOf locals o sh f) ≡ after-last ip (stateOf locals head) (walkedOf locals o sh)
   last-at e = ap (λ (f : Flow). after-last ip (stateOf locals head) (flowOf locals o sh f)) (sym e)
 
-  pub last-refused : {r : Refusal} → o .flow ≡ Refused r → refused (numbers r) ≡ after-last ip (stateOf locals head) (walkedOf locals o sh)
+  pub last-refused : {r : Verdict} → o .flow ≡ Refused r → refused (numbers r) ≡ after-last ip (stateOf locals head) (walkedOf locals o sh)
   unfolding after-last flowOf _>>=_
   last-refused e = last-at e
 

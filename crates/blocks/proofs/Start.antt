@@ -19,12 +19,12 @@ use Rattle.frame.specs.declared.State.{State}
 use Rattle.frame.specs.Model.{stateOf, stackOf, localsOf, withLocal}
 use Rattle.bytecode.specs.Lists.{tabulate}
 use Rattle.bytecode.specs.Meaning.{chunkOf, chunksOf, count, sigsOf, localsAt, locals-low, first-op, op-count, code-length, chunk-sig, chunk-locals}
-use Rattle.apply.specs.declared.Ctx.{Ctx}
-use Rattle.apply.specs.Answers.{Of}
+use Rattle.rules.specs.declared.Ctx.{Ctx}
+use Rattle.rules.specs.Answers.{Of}
 use Rattle.blocks.specs.Outcomes.{numbers, pendingOf, breaksOf, flowOf, walkedOf, Open}
 use Rattle.blocks.specs.Visits.{Placed, chunkIn}
 use Rattle.stretch.specs.Stretch.{sheetsOf}
-use Rattle.blocks.specs.declared.Refusal.{Refusal}
+use Rattle.answer.specs.declared.Verdict.{Verdict}
 use Rattle.blocks.specs.declared.Flow.{Flow}
 use Rattle.blocks.specs.declared.Flow.the-variants.{Refused, Ended, Falls}
 use Rattle.blocks.specs.declared.Pending.the-variants.{Nothing}

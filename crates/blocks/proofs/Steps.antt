@@ -23,22 +23,24 @@ use Rattle.frame.specs.declared.State.{State}
 use Rattle.frame.specs.Model.{stateOf, stackOf}
 use Rattle.bytecode.specs.Meaning.{first-op, chunk-base}
 use Rattle.blocks.specs.Outcomes.{numbers, breaksOf, onwardOf, restOf, loopOf, after-loop}
-use Rattle.apply.specs.Answers.{values-of}
-use Rattle.apply.specs.Answers.{is-none, refusal, resultOf}
+use Rattle.rules.specs.Answers.{values-of}
+use Rattle.answer.specs.Answer.{is-none, refusal, fields}
+use Rattle.rules.specs.Answers.{resultOf}
 use Rattle.bytecode.specs.Parts.{Instr-is}
 use Rattle.bytecode.specs.declared.Instr.{Instr}
 use Rattle.blocks.specs.Visits.{chunkIn, instrIn, Examined, markIn, visitIn, Quietly}
 use Rattle.stretch.specs.Stretch.{leads}
 use Rattle.stretch.specs.Stretch.{sheetsOf, straight}
 use Rattle.stretch.proofs.Laws.{Tested, passed-is, refused-is, instr-refused}
-use Rattle.blocks.specs.declared.Refusal.{Refusal}
-use Rattle.blocks.specs.declared.Refusal.the-variants.{Instruction, Misplaced}
+use Rattle.answer.specs.declared.Verdict.{Verdict}
+use Rattle.answer.specs.declared.Verdict.the-variants.{Refused as Fault}
+use Rattle.answer.specs.declared.Refusal.the-variants.{NotNested}
 use Rattle.blocks.specs.declared.Flow.{Flow}
 use Rattle.blocks.specs.declared.Flow.the-variants.{Refused, Ended, Falls}
 use Rattle.blocks.specs.Visits.{StepIn}
 use Rattle.blocks.specs.Outcomes.{BreaksIn}
 use Rattle.blocks.specs.Outcomes.{OnwardIn}
-use Rattle.apply.specs.declared.Ctx.{Ctx}
+use Rattle.rules.specs.declared.Ctx.{Ctx}
 use Rattle.blocks.proofs.Laws.{height-is}
 
 -- ── Where it leads ────────────────────────────────────────────────────────────────────────
@@ -64,13 +66,13 @@ module _ (t : List ℕ) (x : Ctx) (ip floor : ℕ) (s : State) (b : BreaksIn) (s
   examined-ok e = sym (E .result) ∙ passed-is (x .locals) (r .verdict) (r .state) e
 
   examined-refused : is-none (refusal (r .verdict)) ≡ false →
-      examine (chunkIn t x) ip floor (instrIn t x ip) (stateOf (x .locals) s) ≡ refused (numbers (Instruction (r .verdict)))
+      examine (chunkIn t x) ip floor (instrIn t x ip) (stateOf (x .locals) s) ≡ refused (numbers (r .verdict))
   unfolding numbers
   examined-refused e = sym (E .result) ∙ refused-is (x .locals) (r .verdict) (r .state) e
 
   -- a refused instruction
   pub visit-refused : (k : Control) → Tested k → is-none (refusal (r .verdict)) ≡ false → (end : ℕ) (o : OnwardIn) (sh′ : Sheets) →
-      o .out .flow ≡ Refused (Instruction (r .verdict)) → visitIn t x ip end floor s b sh k ≡ restOf (chunkIn t x) (x .locals) end floor o sh′
+      o .out .flow ≡ Refused (r .verdict) → visitIn t x ip end floor s b sh k ≡ restOf (chunkIn t x) (x .locals) end floor o sh′
   unfolding onwardOf
   visit-refused k h e end o sh′ f =
       instr-refused (chunkIn t x) (full (chunkIn t x)) ip end floor (stateOf (x .locals) s) (breaksOf (x .locals) b) sh (instrIn t x ip) k h _ (examined-refused e)
@@ -172,10 +174,10 @@ below-75 : (k : ℕ) → 64 ≤ k → k < 75 → k - 64 < 11
 below-75 k h l = omega arith
 
 -- Else, EndIf and EndLoop
-pub visit-closer : (t : List ℕ) (x : Ctx) (ip end floor : ℕ) (s : State) (b : BreaksIn) (sh sh′ : Sheets) (o : OnwardIn) (k a : ℕ) → o .out .flow ≡ Refused (Misplaced ip) →
+pub visit-closer : (t : List ℕ) (x : Ctx) (ip end floor : ℕ) (s : State) (b : BreaksIn) (sh sh′ : Sheets) (o : OnwardIn) (k a : ℕ) → o .out .flow ≡ Refused (Fault (NotNested ip)) →
     k < 75 → straight k ≡ false → k ≢ 64 → k ≢ 65 → k ≢ 66 → k ≢ 69 → k ≢ 71 → k ≢ 74 →
     visitIn t x ip end floor s b sh (leads k a) ≡ restOf (chunkIn t x) (x .locals) end floor o sh′
-unfolding onwardOf numbers
+unfolding onwardOf numbers values-of refusal fields
 visit-closer t x ip end floor s b sh sh′ o k a f l e n64 n65 n66 n69 n71 n74 =
     let q = not-straight k e in
     ap (λ (j : ℕ). visitIn t x ip end floor s b sh (leads j a)) (from-64 k (k - 64) (q .0) refl)

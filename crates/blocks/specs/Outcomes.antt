@@ -9,9 +9,9 @@ use Rattle.definition.specs.Walk.{State as AnyState, Sheets, Walked, Left as An
 use Rattle.theorems.specs.Fuel.{full}
 use Rattle.frame.specs.declared.State.{State}
 use Rattle.frame.specs.Model.{stateOf, at}
-use Rattle.apply.specs.Answers.{refusal, values-of}
-use Rattle.blocks.specs.declared.Refusal.{Refusal}
-use Rattle.blocks.specs.declared.Refusal.the-variants.{Instruction, BranchHeightMismatch, LoopNotNeutral, Misplaced}
+use Rattle.answer.specs.Answer.{refusal}
+use Rattle.rules.specs.Answers.{values-of}
+use Rattle.answer.specs.declared.Verdict.{Verdict}
 use Rattle.blocks.specs.declared.Flow.{Flow}
 use Rattle.blocks.specs.declared.Flow.the-variants.{Refused, Ended, Falls}
 use Rattle.blocks.specs.declared.Leaving.{Leaving}
@@ -64,11 +64,8 @@ leftIn l slots places = record { leaving = l .leaving; state = at (l .height) sl
 -- ── What they mean ────────────────────────────────────────────────────────────────────────
 
 -- 01's number and values of each refusal of a walk, its chunk not among them yet. The last is never given: no walk of a nested chunk comes to a closer.
-unfoldable pub numbers : Refusal → List ℕ
-numbers (Instruction v) = values-of (refusal v)
-numbers (BranchHeightMismatch ip a b) = 10 ∷ ip ∷ a ∷ b ∷ []
-numbers (LoopNotNeutral ip a b) = 11 ∷ ip ∷ a ∷ b ∷ []
-numbers (Misplaced ip) = 3 ∷ ip ∷ []
+unfoldable pub numbers : Verdict → List ℕ
+numbers v = values-of (refusal v)
 
 -- the breaks so far
 unfoldable pub pendingOf : ℕ → BreaksIn → Pending → AnyBreaks

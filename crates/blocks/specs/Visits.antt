@@ -15,9 +15,10 @@ use Rattle.theorems.specs.Nested.{Nested}
 use Rattle.bytecode.specs.Meaning.{chunkOf, instrAt}
 use Rattle.frame.specs.declared.State.{State}
 use Rattle.frame.specs.Model.{stateOf, stackOf}
-use Rattle.apply.specs.declared.Ctx.{Ctx}
-use Rattle.apply.specs.declared.Verdict.{Verdict}
-use Rattle.apply.specs.Answers.{Of, resultOf, refusal}
+use Rattle.rules.specs.declared.Ctx.{Ctx}
+use Rattle.answer.specs.declared.Verdict.{Verdict}
+use Rattle.answer.specs.Answer.{refusal, fields}
+use Rattle.rules.specs.Answers.{Of, resultOf}
 use Rattle.blocks.specs.declared.Onward.{Onward}
 use Rattle.blocks.specs.declared.Flow.the-variants.{Ended}
 use Rattle.blocks.specs.Outcomes.{BreaksIn, OnwardIn, breaksOf, Low}

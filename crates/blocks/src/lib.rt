@@ -1,7 +1,9 @@
 // What the walk does at one instruction that does not lead straight onward, and where paths meet: breaks, joins, leaving a loop, forgetting. The states are in arrays that
 // the caller lends.
-use apply::Ctx;
-use apply::Verdict;
+use answer::Refusal;
+use answer::Verdict;
+use bytecode::code;
+use rules::Ctx;
 ghost use mathlib.Core.Path.{_≡_};
 ghost use mathlib.Core.Bool.{Bool, true, false};
 ghost use mathlib.Core.Logic.{_≢_};
@@ -20,19 +22,12 @@ ghost use Rattle.blocks.specs.Outcomes.{breaksIn, outcomeIn, onwardIn, l
 ghost use Rattle.blocks.specs.Visits.{Placed, chunkIn, instrIn, Guarded, visitIn, Steps, Quietly};
 ghost use Rattle.blocks.specs.declared.Flow.the-variants.{Refused};
 ghost use Rattle.blocks.specs.declared.Pending.the-variants.{Joined};
-ghost use Rattle.blocks.specs.declared.Refusal.the-variants.{Instruction, Misplaced};
-
-// A refusal of the walk: of one instruction, or of a join, with the Rust's fields.
-pub enum Refusal {
-    Instruction(Verdict),
-    BranchHeightMismatch(usize, usize, usize),
-    LoopNotNeutral(usize, usize, usize),
-    Misplaced(usize),
-}
+ghost use Rattle.answer.specs.declared.Verdict.the-variants.{Refused as Fault};
+ghost use Rattle.answer.specs.declared.Refusal.the-variants.{NotNested};
 
 // How a stretch was walked: refused, no path comes to its end, or it falls through.
 pub enum Flow {
-    Refused(Refusal),
+    Refused(Verdict),
     Ended,
     Falls,
 }
@@ -64,7 +59,7 @@ pub struct Onward {
 }
 
 pub enum Leaving {
-    Stopped(Refusal),
+    Stopped(Verdict),
     After,
 }
 
@@ -209,7 +204,11 @@ fn join_states(
         };
     }
     Outcome {
-        flow: Flow::Refused(Refusal::BranchHeightMismatch(ip, height, other)),
+        flow: Flow::Refused(Verdict::Refused(Refusal::BranchHeightMismatch(
+            ip as u64,
+            height as u64,
+            other as u64,
+        ))),
         height: height,
         breaks: k,
     }
@@ -245,7 +244,11 @@ pub fn leave_loop(
             }
         }
         Pending::Unequal(x, y) => Left {
-            leaving: Leaving::Stopped(Refusal::BranchHeightMismatch(ip, x, y)),
+            leaving: Leaving::Stopped(Verdict::Refused(Refusal::BranchHeightMismatch(
+                ip as u64,
+                x as u64,
+                y as u64,
+            ))),
             height: height,
         },
     }
@@ -276,7 +279,11 @@ pub fn not_neutral(ip: usize, head: usize, end: usize) -> Left
     ensures { λ r. ⌜ ((locals : ℕ) (s p : List ℕ) (sh : Sheets) → leftOf locals (leftIn r s p) sh ≡ refused (11 ∷ ip ∷ head ∷ end ∷ [])) × (r .height ≡ head) ⌝ }
 {
     Left {
-        leaving: Leaving::Stopped(Refusal::LoopNotNeutral(ip, head, end)),
+        leaving: Leaving::Stopped(Verdict::Refused(Refusal::LoopNotNeutral(
+            ip as u64,
+            head as u64,
+            end as u64,
+        ))),
         height: head,
     }
 }
@@ -378,7 +385,7 @@ pub fn guard_at(
 {
     let first = x.first;
     mark_height(heights, first + ip, height);
-    apply::check_need(height, need, floor, ip)
+    rules::check_need(height, need, floor, ip)
 }
 
 // The form of the If at ip.
@@ -398,7 +405,7 @@ pub fn layout_of(t: &[u64], x: Ctx, ip: usize, target: usize) -> Layout
     let i = bytecode::instr_at(t, first + at);
     let code = i.code;
     let a = i.a;
-    if code == 67 {
+    if code == code::ELSE {
         return Layout::TwoArms(a as usize);
     }
     Layout::OneArm
@@ -407,12 +414,12 @@ pub fn layout_of(t: &[u64], x: Ctx, ip: usize, target: usize) -> Layout
 // The instruction at ip was refused.
 pub fn refused_at(v: Verdict, ip: usize, height: usize, b: Breaks) -> Onward
     requires { ⌜ ip < 4096 ⌝ }
-    ensures { λ r. ⌜ (r .next ≡ ip + 1) × (r .out .flow ≡ Refused (Instruction v)) × (r .out .height ≡ height) × (r .out .breaks ≡ b) ⌝ }
+    ensures { λ r. ⌜ (r .next ≡ ip + 1) × (r .out .flow ≡ Refused v) × (r .out .height ≡ height) × (r .out .breaks ≡ b) ⌝ }
 {
     Onward {
         next: ip + 1,
         out: Outcome {
-            flow: Flow::Refused(Refusal::Instruction(v)),
+            flow: Flow::Refused(v),
             height: height,
             breaks: b,
         },
@@ -508,7 +515,7 @@ fn quiet_at(
     let first = x.first;
     let locals = x.locals;
     mark_height(heights, first + ip, height);
-    if code == 71 {
+    if code == code::BREAK {
         let k = add_break(broken, held, b, slots, places, height, locals);
         return Onward {
             next: ip + 1,
@@ -532,12 +539,12 @@ fn quiet_at(
 // A closer: no walk of a nested chunk comes to one.
 fn misplaced_at(ip: usize, height: usize, b: Breaks) -> Onward
     requires { ⌜ (ip < 4096) × (height ≤ 64) × (b .height ≤ 64) ⌝ }
-    ensures { λ r. ⌜ (r .out .flow ≡ Refused (Misplaced ip)) × Steps ip r ⌝ }
+    ensures { λ r. ⌜ (r .out .flow ≡ Refused (Fault (NotNested ip))) × Steps ip r ⌝ }
 {
     Onward {
         next: ip + 1,
         out: Outcome {
-            flow: Flow::Refused(Refusal::Misplaced(ip)),
+            flow: Flow::Refused(Verdict::Refused(Refusal::NotNested(ip as u64))),
             height: height,
             breaks: b,
         },
@@ -567,8 +574,8 @@ pub fn leaf_at(
     ensures { λ r. ⌜ Long (now (broken .exit)) (now (held .exit)) × ((end : ℕ) → visitIn (now (t .entry)) x ip end floor (at height (now (slots .entry)) (now (places .entry))) (breaksIn b (now (broken .entry)) (now (held .entry))) (sheetsOf (now (heights .entry)) (now (blinds .entry))) (leads code target) ≡ restOf (chunkIn (now (t .entry)) x) (x .locals) end floor (onwardIn r (now (slots .entry)) (now (places .entry)) (now (broken .exit)) (now (held .exit))) (sheetsOf (now (heights .exit)) (now (blinds .exit)))) × Steps ip r ⌝ }
 {
     match code {
-        64 => trap_at(t, heights, blinds, x, ip, floor, height, b),
-        66 => {
+        code::TRAP => trap_at(t, heights, blinds, x, ip, floor, height, b),
+        code::BREAK_IF => {
             break_if_at(
                 t,
                 heights,
@@ -585,8 +592,8 @@ pub fn leaf_at(
                 b,
             )
         }
-        71 => quiet_at(heights, slots, places, broken, held, x, code, ip, height, b),
-        74 => quiet_at(heights, slots, places, broken, held, x, code, ip, height, b),
+        code::BREAK => quiet_at(heights, slots, places, broken, held, x, code, ip, height, b),
+        code::RETURN => quiet_at(heights, slots, places, broken, held, x, code, ip, height, b),
         _ => misplaced_at(ip, height, b),
     }
 }
@@ -604,7 +611,7 @@ fn invalidate_local(t: &[u64], slots: &mut [u64; 96], places: &mut [u32; 1536], 
     let i = bytecode::instr_at(t, first + p);
     let code = i.code;
     let a = i.a;
-    if code == 5 {
+    if code == code::SET_LOCAL {
         let v = shapes::unknown_value();
         frame::set_local(slots, places, a as usize, v, locals);
     }
@@ -639,7 +646,7 @@ pub fn start_locals(t: &[u64], slots: &mut [u64; 96], places: &mut [u32; 1536], 
     let locals = x.locals;
     let mut i = 0;
     while i < locals {
-        let v = apply::wire_value(bytecode::sig_param(t, k, i));
+        let v = rules::wire_value(bytecode::sig_param(t, k, i));
         frame::set_local(slots, places, i, v, locals);
         i += 1;
     }

@@ -3,7 +3,7 @@ use mathlib.Core.Path.{_≡_, refl, sym, ap, _∙_, subst}
 use mathlib.Core.Bool.{Bool, true, false}
 use mathlib.Core.Option.{Option, none, some}
 use mathlib.Core.List.{List, [], _∷_, map}
-use Prim.Native.Nat.{ℕ, zero, suc, _+_, _-_, _*_, _/_, _%_, _≤_, _<_}
+use Prim.Native.Nat.{ℕ, zero, suc, _+_, _-_, _*_, _/_, _%_, _^_, _≤_, _<_}
 use native.Mathlib.Omega.{arith}
 use native.Mathlib.Decide.{decLt}
 use native.Mathlib.Nat.{zero-add}
@@ -14,7 +14,7 @@ use lib.ListN.{length, getD, getElem?, List·getD-map, List·getD-eq-default, le
 use Rattle.definition.specs.Basics.{choose, saturating-add, is-member}
 use Rattle.definition.specs.Shapes.{Shape, unknown, scalar, composite, Wire, top, from-wire, if-same}
 use Rattle.definition.specs.Instructions.{Sig}
-use Rattle.definition.specs.Module.{no-sig, under-check}
+use Rattle.definition.specs.Module.{no-sig, under-check, Header as AnyHeader, address-bytes}
 use Rattle.definition.specs.Effects.{shape-of, returned, returned-native}
 use Rattle.definition.specs.Ops.{instr}
 use Rattle.bytecode.specs.Tables.{base, stride, row-at}
@@ -22,30 +22,32 @@ use Rattle.bytecode.specs.Lists.{limited, limited-le, limited-same, limi
 use Rattle.bytecode.specs.Lists.{tabulate-past, tabulate-map}
 use Rattle.bytecode.specs.Meaning.{cell, count, wireOf, wire-of, instrAt, opAt, op-of, maxima-of, nativesOf, nativeAt, sigsOf, sigAt, params-at}
 use Rattle.bytecode.specs.Meaning.{enumsOf, enumAt, headerOf, chunkOf, codeOf, constAt, first-const, const-count, firstAt, endAt, count-low}
-use Rattle.bytecode.specs.Meaning.{first-low, end-low, enum-sizesOf}
+use Rattle.bytecode.specs.Meaning.{first-low, end-low, enum-sizesOf, address-low}
 use Rattle.bytecode.specs.Operands.{three-enough}
-use Rattle.bytecode.specs.Parts.{instrOf, Instr-is, sig-shape, Span-is}
+use Rattle.bytecode.specs.Parts.{instrOf, Instr-is, sig-shape, Span-is, header-of, Widths-of}
 use Rattle.bytecode.specs.declared.Instr.{Instr}
 use Rattle.bytecode.specs.declared.Span.{Span}
+use Rattle.bytecode.specs.declared.Header.{Header}
+use Rattle.value_layout.specs.declared.Widths.{Widths}
 
 -- ── A shape's word ────────────────────────────────────────────────────────────────────────
 
 module _ (w : ℕ) where
-  pub scalar-known : w % 4 ≡ 1 → w / 4 % 256 ≤ 7 → scalar (w / 4 % 256) ≡ from-wire (wireOf w)
+  pub scalar-known : w % 4 ≡ 1 → leb (w / 4 % 256) 7 ≡ true → scalar (w / 4 % 256) ≡ from-wire (wireOf w)
   unfolding wireOf wire-of from-wire if-same
-  scalar-known e h = rw (e, le-leb (w / 4 % 256) 7 h)
+  scalar-known e h = rw (e, h)
 
-  pub scalar-other : w % 4 ≡ 1 → 7 < w / 4 % 256 → unknown ≡ from-wire (wireOf w)
+  pub scalar-other : w % 4 ≡ 1 → leb (w / 4 % 256) 7 ≡ false → unknown ≡ from-wire (wireOf w)
   unfolding wireOf wire-of from-wire if-same
-  scalar-other e h = rw (e, lt-leb (w / 4 % 256) 7 h)
+  scalar-other e h = rw (e, h)
 
-  pub flat-known : w % 4 ≡ 2 → w / 4 % 256 ≤ 3 → composite (w / 4 % 256) (limited 4294967295 (w / 1024)) none ≡ from-wire (wireOf w)
+  pub flat-known : w % 4 ≡ 2 → leb (w / 4 % 256) 3 ≡ true → composite (w / 4 % 256) (limited 4294967295 (w / 1024)) none ≡ from-wire (wireOf w)
   unfolding wireOf wire-of from-wire if-same
-  flat-known e h = rw (e, le-leb (w / 4 % 256) 3 h)
+  flat-known e h = rw (e, h)
 
-  pub flat-other : w % 4 ≡ 2 → 3 < w / 4 % 256 → unknown ≡ from-wire (wireOf w)
+  pub flat-other : w % 4 ≡ 2 → leb (w / 4 % 256) 3 ≡ false → unknown ≡ from-wire (wireOf w)
   unfolding wireOf wire-of from-wire if-same
-  flat-other e h = rw (e, lt-leb (w / 4 % 256) 3 h)
+  flat-other e h = rw (e, h)
 
   other-tag : (m k n : ℕ) → (m ≡ 1 → ⊥) → (m ≡ 2 → ⊥) → unknown ≡ from-wire (wire-of m k n)
   unfolding wire-of from-wire
@@ -220,3 +222,22 @@ module _ (t : List ℕ) (k p : ℕ) where
   pub const-out : const-count t k ≤ p → none ≡ getElem? (chunkOf t k .consts) p
   unfolding chunkOf under-check codeOf
   const-out h = sym (tabulate-none (first-const t k) (const-count t k) (constAt t) p h)
+
+-- ── The widths of a module ─────────────────────────────────────────────────────────────────
+
+module _ (t : List ℕ) (h : Header) (e : header-of h ≡ headerOf t) where
+  log-is : h .«address_log» ≡ headerOf t .address-log
+  unfolding header-of
+  log-is = ap (λ (x : AnyHeader). x .address-log) e
+
+  pub log-low : h .«address_log» ≤ 6
+  log-low = omega (arith, log-is, address-low t)
+
+  pub widths-of : (w : Widths) → w .word ≡ h .word → w .float ≡ h .float → w .address ≡ 2 ^ h .«address_log» / 8 → Widths-of (headerOf t) w
+  unfolding header-of address-bytes
+  widths-of w a b c =
+      record {
+        word-is = a ∙ ap (λ (x : AnyHeader). x .word) e;
+        float-is = b ∙ ap (λ (x : AnyHeader). x .float) e;
+        address-is = c ∙ ap (λ (n : ℕ). 2 ^ n / 8) log-is;
+      }

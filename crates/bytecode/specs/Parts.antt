@@ -11,7 +11,8 @@ use Rattle.definition.specs.Shapes.{Shape, unknown, scalar, composite, from-wir
 use Rattle.definition.specs.Instructions.{Instr as AnyInstr, Chunk}
 use Rattle.definition.specs.Effects.{need, net}
 use Rattle.definition.specs.Ops.{instr}
-use Rattle.definition.specs.Module.{Shared, Private, Header as AnyHeader}
+use Rattle.definition.specs.Module.{Shared, Private, Header as AnyHeader, address-bytes}
+use Rattle.value_layout.specs.declared.Widths.{Widths}
 use Rattle.bytecode.specs.Tables.{cap}
 use Rattle.bytecode.specs.Meaning.{cell, count, headerOf, enumsOf, wireOf, firstAt, endAt, instrAt, opAt, maxima-of}
 use Rattle.bytecode.specs.declared.Span.{Span}
@@ -36,6 +37,12 @@ header-of h =
       index-trap = h .«index_trap»;
       host-trap = h .«host_trap»;
     }
+
+-- the widths of a module
+pub record Widths-of (h : AnyHeader) (w : Widths) : Type 0 where
+  pub word-is : w .word ≡ h .word
+  pub float-is : w .float ≡ h .float
+  pub address-is : w .address ≡ address-bytes h
 
 unfoldable pub shared-of : SharedEntry → Shared
 shared-of s = record { offset = s .offset; kind = s .kind; len = s .len }

@@ -1,6 +1,8 @@
 // The tables of a module, in one lent slice of words: word k counts the rows of table k, whose rows stand from base_of(k) on.
+use value_layout::Widths;
+use value_layout::scalar;
 ghost use mathlib.Core.Path.{_≡_};
-ghost use Prim.Native.Nat.{ℕ, _+_, _*_, _-_, _%_, _<_, _≤_};
+ghost use Prim.Native.Nat.{ℕ, _+_, _*_, _-_, _%_, _<_, _≤_, min};
 ghost use mathlib.Core.List.{map};
 ghost use lib.ListN.{length, getD, getElem?};
 ghost use Rattle.definition.specs.Format.{bits};
@@ -11,14 +13,61 @@ ghost use Rattle.definition.specs.Effects.{shape-of, returned, returned-native}
 ghost use Rattle.bytecode.specs.Tables.{tables, stride, cap, base, size, row-at, Appended};
 ghost use Rattle.bytecode.specs.Lists.{limited};
 ghost use Rattle.bytecode.specs.Meaning.{count as countOf, headerOf, slotAt, slot-of, sharedAt, privateAt, enumAt, wireOf, localsAt, firstAt, endAt, nativesOf, sigsOf, chunkOf, enum-sizesOf};
-ghost use Rattle.bytecode.specs.Parts.{header-of, shared-of, private-of, declared-shape, sig-shape, Span-is, constant-of, Instr-is, index-pushed, native-pushed, trap-need, Effect-is};
+ghost use Rattle.bytecode.specs.Parts.{header-of, Widths-of, shared-of, private-of, declared-shape, sig-shape, Span-is, constant-of, Instr-is, index-pushed, native-pushed, trap-need, Effect-is};
 ghost use lib.IntN.{pos, _-ℤ_};
 
+pub mod code;
 pub mod ops;
 
 pub const SIZE: usize = 22232;
 
 pub const WORDS: usize = 19;
+
+// The tables, in the order in which a listing has their lines.
+pub const HEADER: usize = 0;
+
+pub const SLOTS: usize = 1;
+
+pub const SHARED: usize = 2;
+
+pub const PRIVATE: usize = 3;
+
+pub const ENUMS: usize = 4;
+
+pub const NATIVES: usize = 5;
+
+pub const SIGNATURES: usize = 6;
+
+pub const CHUNKS: usize = 7;
+
+pub const CONSTANTS: usize = 8;
+
+pub const INSTRUCTIONS: usize = 9;
+// How many there are.
+pub const TABLES: usize = 10;
+
+// The words of the header's one row.
+const WORD_BYTES: usize = 17;
+
+const FLOAT_BYTES: usize = 18;
+
+const ADDRESS_LOG: usize = 19;
+
+const SHARED_BYTES: usize = 20;
+
+const POOL_BYTES: usize = 21;
+
+const INDEX_TRAP: usize = 22;
+
+const HOST_TRAP: usize = 23;
+
+// Where the rows of the instructions begin.
+const FIRST_INSTRUCTION: usize = 5848;
+
+// The largest number of so many bits.
+const MOST_16: u16 = 65535;
+
+const MOST_32: u32 = 4294967295;
 
 // A table's layout is decided by a `match`, which costs one load: a constant array would be made anew at each call.
 fn stride_of(k: usize) -> usize
@@ -26,15 +75,15 @@ fn stride_of(k: usize) -> usize
     ensures { λ r. ⌜ r ≡ stride k ⌝ }
 {
     match k {
-        0 => 8,
-        1 => 1,
-        2 => 4,
-        3 => 3,
-        4 => 2,
-        5 => 2,
-        6 => 19,
-        7 => 4,
-        8 => 2,
+        HEADER => 8,
+        SLOTS => 1,
+        SHARED => 4,
+        PRIVATE => 3,
+        ENUMS => 2,
+        NATIVES => 2,
+        SIGNATURES => 19,
+        CHUNKS => 4,
+        CONSTANTS => 2,
         _ => 4,
     }
 }
@@ -44,15 +93,15 @@ fn base_of(k: usize) -> usize
     ensures { λ r. ⌜ r ≡ base k ⌝ }
 {
     match k {
-        0 => 16,
-        1 => 24,
-        2 => 280,
-        3 => 1304,
-        4 => 2072,
-        5 => 2200,
-        6 => 2328,
-        7 => 3544,
-        8 => 3800,
+        HEADER => 16,
+        SLOTS => 24,
+        SHARED => 280,
+        PRIVATE => 1304,
+        ENUMS => 2072,
+        NATIVES => 2200,
+        SIGNATURES => 2328,
+        CHUNKS => 3544,
+        CONSTANTS => 3800,
         _ => 5848,
     }
 }
@@ -62,17 +111,23 @@ pub fn cap_of(k: usize) -> u64
     ensures { λ r. ⌜ r ≡ cap k ⌝ }
 {
     match k {
-        0 => 1,
-        1 => 256,
-        2 => 256,
-        3 => 256,
-        4 => 64,
-        5 => 64,
-        6 => 64,
-        7 => 64,
-        8 => 1024,
+        HEADER => 1,
+        SLOTS => 256,
+        SHARED => 256,
+        PRIVATE => 256,
+        ENUMS => 64,
+        NATIVES => 64,
+        SIGNATURES => 64,
+        CHUNKS => 64,
+        CONSTANTS => 1024,
         _ => 4096,
     }
+}
+
+pub fn least(a: usize, b: usize) -> usize
+    ensures { λ r. ⌜ r ≡ min a b ⌝ }
+{
+    if a < b { a } else { b }
 }
 
 fn index(x: u64) -> usize
@@ -161,13 +216,13 @@ pub struct Header {
 pub fn header_at(t: &[u64]) -> Header
     ensures { λ r. ⌜ header-of r ≡ headerOf (now (t .entry)) ⌝ }
 {
-    let word_bytes = limited8(word(t, 17), 8);
-    let float_bytes = limited8(word(t, 18), 8);
-    let address_log = limited8(word(t, 19), 6);
-    let shared_bytes = limited32(word(t, 20), 4294967295);
-    let pool_bytes = limited32(word(t, 21), 4294967295);
-    let index_trap = limited16(word(t, 22), 65535);
-    let host_trap = limited16(word(t, 23), 65535);
+    let word_bytes = limited8(word(t, WORD_BYTES), 8);
+    let float_bytes = limited8(word(t, FLOAT_BYTES), 8);
+    let address_log = limited8(word(t, ADDRESS_LOG), 6);
+    let shared_bytes = limited32(word(t, SHARED_BYTES), MOST_32);
+    let pool_bytes = limited32(word(t, POOL_BYTES), MOST_32);
+    let index_trap = limited16(word(t, INDEX_TRAP), MOST_16);
+    let host_trap = limited16(word(t, HOST_TRAP), MOST_16);
     Header {
         word: word_bytes,
         float: float_bytes,
@@ -179,12 +234,27 @@ pub fn header_at(t: &[u64]) -> Header
     }
 }
 
+// Bytes of a word, a float and an address of the module.
+pub fn widths(t: &[u64]) -> Widths
+    ensures { λ r. ⌜ Widths-of (headerOf (now (t .entry))) r ⌝ }
+{
+    let h = header_at(t);
+    let address = value_layout::address_bytes(h.address_log);
+    let word_bytes = h.word;
+    let float_bytes = h.float;
+    Widths {
+        word: word_bytes,
+        float: float_bytes,
+        address: address,
+    }
+}
+
 // Whether slot i is shared; else it is private.
 pub fn slot_shared(t: &[u64], i: usize) -> bool
     requires { ⌜ i < 256 ⌝ }
     ensures { λ r. ⌜ slot-of r ≡ slotAt (now (t .entry)) i ⌝ }
 {
-    cell(t, 1, i, 0) == 0
+    cell(t, SLOTS, i, 0) == 0
 }
 
 pub struct SharedEntry {
@@ -197,9 +267,9 @@ pub fn shared_at(t: &[u64], i: usize) -> SharedEntry
     requires { ⌜ i < 256 ⌝ }
     ensures { λ r. ⌜ shared-of r ≡ sharedAt (now (t .entry)) i ⌝ }
 {
-    let offset = limited32(cell(t, 2, i, 1), 4294967295);
-    let kind = limited8(cell(t, 2, i, 2), 255);
-    let len = limited16(cell(t, 2, i, 3), 65535);
+    let offset = limited32(cell(t, SHARED, i, 1), MOST_32);
+    let kind = limited8(cell(t, SHARED, i, 2), 255);
+    let len = limited16(cell(t, SHARED, i, 3), MOST_16);
     SharedEntry {
         offset: offset,
         kind: kind,
@@ -216,8 +286,8 @@ pub fn private_at(t: &[u64], i: usize) -> PrivateEntry
     requires { ⌜ i < 256 ⌝ }
     ensures { λ r. ⌜ private-of r ≡ privateAt (now (t .entry)) i ⌝ }
 {
-    let slot = limited16(cell(t, 3, i, 1), 65535);
-    let offset = limited32(cell(t, 3, i, 2), 4294967295);
+    let slot = limited16(cell(t, PRIVATE, i, 1), MOST_16);
+    let offset = limited32(cell(t, PRIVATE, i, 2), MOST_32);
     PrivateEntry {
         slot: slot,
         offset: offset,
@@ -229,7 +299,7 @@ pub fn enum_min(t: &[u64], i: usize) -> u32
     requires { ⌜ i < 64 ⌝ }
     ensures { λ r. ⌜ r ≡ enumAt (now (t .entry)) i ⌝ }
 {
-    limited32(cell(t, 4, i, 1), 4294967295)
+    limited32(cell(t, ENUMS, i, 1), MOST_32)
 }
 
 // A declared shape as the walk takes it: a tag that is not known gives unknown.
@@ -246,14 +316,14 @@ fn shape_of_word(w: u64) -> WireShape
     let tag = w % 4;
     let k = (w / 4 % 256) as u8;
     if tag == 1 {
-        if k <= 7 {
+        if value_layout::is_scalar_tag(k) {
             return WireShape::Scalar(k);
         }
         return WireShape::Unknown;
     }
     if tag == 2 {
-        if k <= 3 {
-            let size = limited32(w / 1024, 4294967295);
+        if value_layout::is_composite_tag(k) {
+            let size = limited32(w / 1024, MOST_32);
             return WireShape::Composite(k, size);
         }
     }
@@ -264,8 +334,8 @@ fn shape_of_word(w: u64) -> WireShape
 pub fn native_shape(t: &[u64], k: usize) -> WireShape
     ensures { λ r. ⌜ declared-shape r ≡ shape-of (returned-native (getElem? (nativesOf (now (t .entry))) k)) ⌝ }
 {
-    if k < count(t, 5) {
-        return shape_of_word(cell(t, 5, k, 1));
+    if k < count(t, NATIVES) {
+        return shape_of_word(cell(t, NATIVES, k, 1));
     }
     WireShape::Unknown
 }
@@ -275,8 +345,8 @@ fn sig_shape(t: &[u64], k: usize, j: usize) -> WireShape
     requires { ⌜ j < 19 ⌝ }
     ensures { λ r. ⌜ declared-shape r ≡ sig-shape (now (t .entry)) k j ⌝ }
 {
-    if k < count(t, 6) {
-        return shape_of_word(cell(t, 6, k, j));
+    if k < count(t, SIGNATURES) {
+        return shape_of_word(cell(t, SIGNATURES, k, j));
     }
     WireShape::Unknown
 }
@@ -297,8 +367,8 @@ pub fn sig_resume(t: &[u64], k: usize) -> WireShape
 pub fn sig_params(t: &[u64], k: usize) -> usize
     ensures { λ r. ⌜ (r ≡ length (getD (sigsOf (now (t .entry))) k no-sig .params)) × (r ≤ 16) ⌝ }
 {
-    if k < count(t, 6) {
-        let n = cell(t, 6, k, 0);
+    if k < count(t, SIGNATURES) {
+        let n = cell(t, SIGNATURES, k, 0);
         if n < 2 {
             return 0;
         }
@@ -320,15 +390,15 @@ pub fn sig_param(t: &[u64], k: usize, j: usize) -> WireShape
 fn enum_size(w: u8, m: u32) -> u32
     ensures { λ r. ⌜ r ≡ saturating-add w m ⌝ }
 {
-    limited32((w as u64) + (m as u64), 4294967295)
+    limited32((w as u64) + (m as u64), MOST_32)
 }
 
 // Whether a body of s bytes is an enum's: W + MIN of one.
 pub fn has_enum_size(t: &[u64], s: u32) -> bool
     ensures { λ r. ⌜ r ≡ is-member s (enum-sizesOf (now (t .entry))) ⌝ }
 {
-    let n = count(t, 4);
-    let w = limited8(word(t, 17), 8);
+    let n = count(t, ENUMS);
+    let w = limited8(word(t, WORD_BYTES), 8);
     let mut i = 0;
     while i < n {
         let m = enum_min(t, i);
@@ -345,7 +415,7 @@ pub fn locals(t: &[u64], k: usize) -> usize
     requires { ⌜ k < 64 ⌝ }
     ensures { λ r. ⌜ r ≡ localsAt (now (t .entry)) k ⌝ }
 {
-    limited64(cell(t, 7, k, 1), 32)
+    limited64(cell(t, CHUNKS, k, 1), 32)
 }
 
 // A stretch of a table: its first row, and how many rows.
@@ -366,7 +436,7 @@ fn first_at(t: &[u64], table: usize, j: usize, k: usize) -> usize
     ensures { λ r. ⌜ r ≡ firstAt (now (t .entry)) table j k ⌝ }
 {
     let n = count(t, table);
-    limited64(cell(t, 7, k, j), wide(n))
+    limited64(cell(t, CHUNKS, k, j), wide(n))
 }
 
 // They end where those of the next chunk begin, and those of the last chunk where the table ends.
@@ -375,7 +445,7 @@ fn end_at(t: &[u64], table: usize, j: usize, k: usize) -> usize
     ensures { λ r. ⌜ r ≡ endAt (now (t .entry)) table j k ⌝ }
 {
     let next = k + 1;
-    if next < count(t, 7) {
+    if next < count(t, CHUNKS) {
         return first_at(t, table, j, next);
     }
     count(t, table)
@@ -399,20 +469,12 @@ fn span_of(t: &[u64], table: usize, j: usize, k: usize) -> Span
     }
 }
 
-// The constants of chunk k among all.
-pub fn constants_of(t: &[u64], k: usize) -> Span
-    requires { ⌜ k < 64 ⌝ }
-    ensures { λ r. ⌜ Span-is (now (t .entry)) 8 2 k r ⌝ }
-{
-    span_of(t, 8, 2, k)
-}
-
 // The instructions of chunk k among all.
 pub fn instructions_of(t: &[u64], k: usize) -> Span
     requires { ⌜ k < 64 ⌝ }
     ensures { λ r. ⌜ Span-is (now (t .entry)) 9 3 k r ⌝ }
 {
-    span_of(t, 9, 3, k)
+    span_of(t, INSTRUCTIONS, 3, k)
 }
 
 pub enum Constant {
@@ -425,11 +487,11 @@ pub fn constant_at(t: &[u64], k: usize, j: usize) -> Constant
     requires { ⌜ k < 64 ⌝ }
     ensures { λ r. ⌜ constant-of r ≡ getElem? (chunkOf (now (t .entry)) k .consts) j ⌝ }
 {
-    let s = span_of(t, 8, 2, k);
+    let s = span_of(t, CONSTANTS, 2, k);
     let first = s.first;
     let n = s.count;
     if j < n {
-        let kind = limited8(cell(t, 8, first + j, 1), 255);
+        let kind = limited8(cell(t, CONSTANTS, first + j, 1), 255);
         return Constant::Kind(kind);
     }
     Constant::Missing
@@ -447,8 +509,8 @@ pub fn instr_at(t: &[u64], i: usize) -> Instr
     requires { ⌜ i < 4096 ⌝ }
     ensures { λ r. ⌜ Instr-is (now (t .entry)) i r ⌝ }
 {
-    let at = 5848 + i * 4;
-    let code = limited8(word(t, at), 74);
+    let at = FIRST_INSTRUCTION + i * 4;
+    let code = limited8(word(t, at), code::RETURN);
     let row = code as usize;
     let a = limited32(word(t, at + 1), ops::maximum_a(row));
     let b = limited32(word(t, at + 2), ops::maximum_b(row));
@@ -477,14 +539,19 @@ fn taking(n: u32, pushed: u8) -> Effect
     }
 }
 
-// GetIndex Flat has a bounds outcome for kinds 2 and 3.
+// The kinds as an operand says them.
+const BYTE: u32 = scalar::BYTE as u32;
+
+const INT: u32 = scalar::INT as u32;
+
+// GetIndex Flat has a bounds outcome for bytes and integers.
 fn index_effect(k: u32) -> Effect
     ensures { λ r. ⌜ (r .need ≡ 2) × (r .net ≡ pos (index-pushed k) -ℤ pos 2) ⌝ }
 {
-    if k == 2 {
+    if k == BYTE {
         return taking(2, 7);
     }
-    if k == 3 {
+    if k == INT {
         return taking(2, 7);
     }
     taking(2, 1)
@@ -520,25 +587,25 @@ pub fn op_depth_effect(i: Instr, index_trap: u16, host_trap: u16) -> Effect
     let a = i.a;
     let b = i.b;
     match code {
-        0..=3 => Effect { need: 0, net: 1 },
-        4 => Effect { need: 1, net: 1 },
-        5..=6 => Effect { need: 1, net: -1 },
-        7 => Effect { need: 2, net: 5 },
-        8 => Effect { need: 2, net: 4 },
-        9 => Effect { need: 1, net: 5 },
-        10 => index_effect(a),
-        11..=12 => Effect { need: 2, net: 5 },
-        13..=27 => Effect { need: 2, net: -1 },
-        28..=46 => Effect { need: 1, net: 0 },
-        47..=48 => Effect { need: 1, net: 1 },
-        49 => taking(b, 1),
-        50..=51 => native_effect(b),
-        52..=53 => taking(b, 1),
-        54..=61 => Effect { need: 2, net: 1 },
-        62 => Effect { need: 1, net: 2 },
-        63 => taking(a, 0),
-        64 => trap_effect(a, index_trap, host_trap),
-        65..=66 => Effect { need: 1, net: -1 },
+        code::CONST..=code::PUSH_IMMEDIATE => Effect { need: 0, net: 1 },
+        code::DUP => Effect { need: 1, net: 1 },
+        code::SET_LOCAL..=code::SET_DATA => Effect { need: 1, net: -1 },
+        code::GET_DATA_INDEXED => Effect { need: 2, net: 5 },
+        code::SET_DATA_INDEXED => Effect { need: 2, net: 4 },
+        code::BOUNDS_CHECK => Effect { need: 1, net: 5 },
+        code::GET_INDEX_FLAT => index_effect(a),
+        code::GET_INDEX_FLAT_NESTED..=code::GET_INDEX_BOXED => Effect { need: 2, net: 5 },
+        code::ADD..=code::FIXED_MUL => Effect { need: 2, net: -1 },
+        code::NEG..=code::YIELD => Effect { need: 1, net: 0 },
+        code::IS_ENUM..=code::IS_STRUCT => Effect { need: 1, net: 1 },
+        code::CALL => taking(b, 1),
+        code::CALL_VERIFIED_NATIVE..=code::CALL_EXTERNAL_NATIVE => native_effect(b),
+        code::NEW_COMPOSITE_FLAT..=code::NEW_COMPOSITE_BOXED => taking(b, 1),
+        code::DIV..=code::CHECKED_DIV => Effect { need: 2, net: 1 },
+        code::CHECKED_NEG => Effect { need: 1, net: 2 },
+        code::POP_N => taking(a, 0),
+        code::TRAP => trap_effect(a, index_trap, host_trap),
+        code::IF..=code::BREAK_IF => Effect { need: 1, net: -1 },
         _ => Effect { need: 0, net: 0 },
     }
 }

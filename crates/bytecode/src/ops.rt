@@ -1067,12 +1067,6 @@ fn wide(x: u8) -> u64
     x as u64
 }
 
-fn least(a: usize, b: usize) -> usize
-    ensures { λ r. ⌜ r ≡ min a b ⌝ }
-{
-    if a < b { a } else { b }
-}
-
 // Eight bytes from `at` on as one word, the first byte lowest; those past the end count as 0.
 fn pack(s: &[u8], at: usize) -> u64
     requires { ⌜ at ≤ 16 ⌝ }
@@ -1082,7 +1076,7 @@ fn pack(s: &[u8], at: usize) -> u64
     if n <= at {
         return 0;
     }
-    let mut i = least(at + 8, n);
+    let mut i = crate::least(at + 8, n);
     let mut w: u64 = 0;
     while at < i {
         i -= 1;

@@ -18,17 +18,20 @@ use Rattle.definition.specs.Module.{Slot, shared, private, Private, Header, add
 use Rattle.definition.specs.Layout.{shared-prefix, shared-count, count-test, scalar-bytes, if-composite, shared-size, shared-fits, shared-test}
 use Rattle.definition.specs.Layout.{entry-test, order-test, private-test, layout-test}
 use Rattle.bytecode.specs.Lists.{tabulate, tabulate-length}
-use Rattle.bytecode.specs.Meaning.{count, headerOf, slotAt, slot-of, sharedAt, privateAt, slotsOf, sharedsOf, privatesOf, moduleOf, address-low}
-use Rattle.bytecode.specs.Parts.{header-of, shared-of, private-of}
+use Rattle.bytecode.specs.Meaning.{count, headerOf, slotAt, slot-of, sharedAt, privateAt, slotsOf, sharedsOf, privatesOf, moduleOf}
+use Rattle.bytecode.specs.Parts.{header-of, Widths-of, shared-of, private-of}
 use Rattle.bytecode.specs.declared.Header.{Header as CodeHeader}
 use Rattle.bytecode.specs.declared.SharedEntry.{SharedEntry}
 use Rattle.bytecode.specs.declared.PrivateEntry.{PrivateEntry}
 use Rattle.value_layout.specs.Sizes.{widthOf}
 use Rattle.value_layout.specs.declared.Widths.{Widths}
-use Rattle.data_layout.proofs.Layout.{the-type}
-use Rattle.data_layout.specs.Answer.{numbers, Widths-of, size-of, before-of}
-use Rattle.data_layout.specs.declared.Layout.{Layout}
-use Rattle.data_layout.specs.declared.Layout.the-variants.{SharedLayoutCountMismatch, SharedSlotOutOfBounds, PrivateCompositeLayoutInvalid, Valid}
+use Rattle.answer.specs.declared.Refusal.{Refusal}
+use Rattle.answer.specs.declared.Refusal.the-variants.{SharedLayoutCountMismatch, SharedSlotOutOfBounds, PrivateCompositeLayoutInvalid}
+use Rattle.answer.specs.declared.Finding.{Finding}
+use Rattle.answer.specs.declared.Finding.the-variants as F
+use Rattle.answer.specs.Answer.{found, numbers, fields, with-chunk}
+use Rattle.answer.proofs.Laws.{stops, goes}
+use Rattle.data_layout.specs.Answer.{size-of, before-of}
 use Rattle.data_layout.specs.declared.Size.{Size}
 use Rattle.data_layout.specs.declared.Size.the-variants.{Bytes, Unknown}
 use Rattle.data_layout.specs.declared.Before.{Before}
@@ -129,13 +132,13 @@ module _ (t : List ℕ) where
   slots-are = tabulate-length 0 (count t 1) (slotAt t)
 
   module _ (p n m : ℕ) (a : p ≡ shared-prefix (slotsOf t)) (b : n ≡ shared-count (slotsOf t)) (c : m ≡ count t 2) where
-    pub not-prefix : (p ≡ n → ⊥) → numbers (SharedLayoutCountMismatch n m 1) ≡ count-test (slotsOf t) (sharedsOf t)
-    unfolding count-test first unless numbers
+    pub not-prefix : (p ≡ n → ⊥) → found (F.Refused 0 (SharedLayoutCountMismatch n m 1)) ≡ count-test (slotsOf t) (sharedsOf t)
+    unfolding count-test first unless found numbers fields with-chunk
     not-prefix h =
         rw (b, c ∙ sym entries-are, ne-eqb (shared-prefix (slotsOf t)) (shared-count (slotsOf t)) (λ e. h (a ∙ e ∙ sym b)))
 
-    pub not-as-many : p ≡ n → (m ≡ n → ⊥) → numbers (SharedLayoutCountMismatch n m 2) ≡ count-test (slotsOf t) (sharedsOf t)
-    unfolding count-test first unless numbers
+    pub not-as-many : p ≡ n → (m ≡ n → ⊥) → found (F.Refused 0 (SharedLayoutCountMismatch n m 2)) ≡ count-test (slotsOf t) (sharedsOf t)
+    unfolding count-test first unless found numbers fields with-chunk
     not-as-many e h =
         rw (
           b,
@@ -144,8 +147,8 @@ module _ (t : List ℕ) where
           ne-eqb (length (sharedsOf t)) (shared-count (slotsOf t)) (λ z. h (c ∙ sym entries-are ∙ z ∙ sym b)),
         )
 
-    pub as-many : p ≡ n → m ≡ n → numbers Valid ≡ count-test (slotsOf t) (sharedsOf t)
-    unfolding count-test first unless numbers
+    pub as-many : p ≡ n → m ≡ n → found F.Nothing ≡ count-test (slotsOf t) (sharedsOf t)
+    unfolding count-test first unless found numbers fields with-chunk
     as-many e h =
         rw (
           eq-eqb (shared-prefix (slotsOf t)) (shared-count (slotsOf t)) (sym a ∙ e ∙ b),
@@ -154,16 +157,11 @@ module _ (t : List ℕ) where
 
 -- ── Tests in order ────────────────────────────────────────────────────────────────────────
 
-pub first-bad : (r : Layout) (a b : Option (List ℕ)) → OneOf (0 ∷ 1 ∷ 2 ∷ []) (tagOf the-type r) → numbers r ≡ a → numbers r ≡ first a b
-unfolding numbers first
-first-bad (SharedLayoutCountMismatch n l q) a b o e = rw (← e)
-first-bad (SharedSlotOutOfBounds i f s q) a b o e = rw (← e)
-first-bad (PrivateCompositeLayoutInvalid i s q) a b o e = rw (← e)
-first-bad Valid a b o e = absurd (⊎-elim (λ x. omega arith) (λ y. ⊎-elim (λ x. omega arith) (λ x. omega arith) y) o)
+pub first-bad : (r : Finding) (a b : Option (List ℕ)) {k : ℕ} {q : Refusal} → r ≡ F.Refused k q → found r ≡ a → found r ≡ first a b
+first-bad r a b o e = stops r a b o e
 
-pub first-good : (r : Layout) (a b x : Option (List ℕ)) → r ≡ Valid → numbers r ≡ a → x ≡ b → x ≡ first a b
-unfolding numbers first
-first-good r a b x v e f = let z : a ≡ none = sym e ∙ ap numbers v in rw (z, f)
+pub first-good : (r : Finding) (a b x : Option (List ℕ)) → r ≡ F.Nothing → found r ≡ a → x ≡ b → x ≡ first a b
+first-good r a b x v e f = goes r a b v e f
 
 -- ── 16 ────────────────────────────────────────────────────────────────────────────────────
 
@@ -211,16 +209,16 @@ module _ (w : Widths) (e : SharedEntry) (h : Header) (W : Widths-of h w) where
 
 module _ (buffer i : ℕ) (e : SharedEntry) (s : Size) where
   pub slot-out : (n : ℕ) → s ≡ Bytes n → buffer < e .offset + n
-      → numbers (SharedSlotOutOfBounds i (e .offset) n buffer) ≡ shared-fits buffer i (shared-of e) (size-of s)
-  unfolding shared-fits size-of shared-of unless numbers
+      → found (F.Refused 0 (SharedSlotOutOfBounds i (e .offset) n buffer)) ≡ shared-fits buffer i (shared-of e) (size-of s)
+  unfolding shared-fits size-of shared-of unless found numbers fields with-chunk
   slot-out n z l = rw (z, size-of, shared-fits, lt-leb (e .offset + n) buffer l)
 
-  pub slot-in : (n : ℕ) → s ≡ Bytes n → e .offset + n ≤ buffer → numbers Valid ≡ shared-fits buffer i (shared-of e) (size-of s)
-  unfolding shared-fits size-of shared-of unless numbers
+  pub slot-in : (n : ℕ) → s ≡ Bytes n → e .offset + n ≤ buffer → found F.Nothing ≡ shared-fits buffer i (shared-of e) (size-of s)
+  unfolding shared-fits size-of shared-of unless found numbers fields with-chunk
   slot-in n z l = rw (z, size-of, shared-fits, le-leb (e .offset + n) buffer l)
 
-  pub slot-unknown : s ≡ Unknown → numbers (SharedSlotOutOfBounds i (e .offset) 0 buffer) ≡ shared-fits buffer i (shared-of e) (size-of s)
-  unfolding shared-fits size-of shared-of numbers
+  pub slot-unknown : s ≡ Unknown → found (F.Refused 0 (SharedSlotOutOfBounds i (e .offset) 0 buffer)) ≡ shared-fits buffer i (shared-of e) (size-of s)
+  unfolding shared-fits size-of shared-of found numbers fields with-chunk
   slot-unknown z = rw (z, size-of, shared-fits)
 
 module _ (t : List ℕ) where
@@ -235,61 +233,61 @@ module _ (t : List ℕ) where
   unfolding sharedsOf shared-left
   shared-start = ap (shared-test (headerOf t) 0) (rest-all (sharedAt t) (count t 2))
 
-  pub shared-end : (i : ℕ) → count t 2 ≤ i → Shareds i → numbers Valid ≡ shared-test (headerOf t) 0 (sharedsOf t)
-  unfolding shared-left shared-test numbers
+  pub shared-end : (i : ℕ) → count t 2 ≤ i → Shareds i → found F.Nothing ≡ shared-test (headerOf t) 0 (sharedsOf t)
+  unfolding shared-left shared-test found numbers fields with-chunk
   shared-end i l S = sym (S ∙ ap (shared-test (headerOf t) i) (rest-none (sharedAt t) (count t 2) i l))
 
   module _ (i : ℕ) (l : i < count t 2) (S : Shareds i) (buffer : ℕ) (b : buffer ≡ headerOf t .shared-bytes) (e : SharedEntry)
-      (x : shared-of e ≡ sharedAt t i) (s : Size) (z : size-of s ≡ shared-size (headerOf t) (shared-of e)) (r : Layout)
-      (n : numbers r ≡ shared-fits buffer i (shared-of e) (size-of s)) where
+      (x : shared-of e ≡ sharedAt t i) (s : Size) (z : size-of s ≡ shared-size (headerOf t) (shared-of e)) (r : Finding)
+      (n : found r ≡ shared-fits buffer i (shared-of e) (size-of s)) where
     abbrev this : Option (List ℕ)
     this = shared-fits (headerOf t .shared-bytes) i (sharedAt t i) (shared-size (headerOf t) (sharedAt t i))
 
-    this-is : numbers r ≡ this
+    this-is : found r ≡ this
     this-is = n ∙ (rw (z, x, b))
 
     step : shared-left i ≡ first this (shared-left (suc i))
     unfolding shared-left shared-test
     step = ap (shared-test (headerOf t) i) (rest-next (sharedAt t) (count t 2) i l)
 
-    pub shared-bad : OneOf (0 ∷ 1 ∷ 2 ∷ []) (tagOf the-type r) → numbers r ≡ shared-test (headerOf t) 0 (sharedsOf t)
+    pub shared-bad : {k : ℕ} {q : Refusal} → r ≡ F.Refused k q → found r ≡ shared-test (headerOf t) 0 (sharedsOf t)
     shared-bad o = first-bad r this (shared-left (suc i)) o this-is ∙ sym (S ∙ step)
 
-    pub shared-good : r ≡ Valid → Shareds (i + 1)
+    pub shared-good : r ≡ F.Nothing → Shareds (i + 1)
     shared-good v = rw add-one (S ∙ step ∙ sym (first-good r this (shared-left (suc i)) (shared-left (suc i)) v this-is refl))
 
 -- ── 18 ────────────────────────────────────────────────────────────────────────────────────
 
 module _ (slots pool i : ℕ) (e : PrivateEntry) where
-  pub slot-past : slots ≤ e .slot → numbers (PrivateCompositeLayoutInvalid i (e .slot) 1) ≡ entry-test slots pool i (private-of e)
-  unfolding entry-test first unless private-of numbers
+  pub slot-past : slots ≤ e .slot → found (F.Refused 0 (PrivateCompositeLayoutInvalid i (e .slot) 1)) ≡ entry-test slots pool i (private-of e)
+  unfolding entry-test first unless private-of found numbers fields with-chunk
   slot-past l = rw (le-ltb (e .slot) slots l)
 
-  pub offset-past : e .slot < slots → pool ≤ e .offset → numbers (PrivateCompositeLayoutInvalid i (e .slot) 2) ≡ entry-test slots pool i (private-of e)
-  unfolding entry-test first unless private-of numbers
+  pub offset-past : e .slot < slots → pool ≤ e .offset → found (F.Refused 0 (PrivateCompositeLayoutInvalid i (e .slot) 2)) ≡ entry-test slots pool i (private-of e)
+  unfolding entry-test first unless private-of found numbers fields with-chunk
   offset-past l k = rw (lt-ltb (e .slot) slots l, le-ltb (e .offset) pool k)
 
-  pub entry-in : e .slot < slots → e .offset < pool → numbers Valid ≡ entry-test slots pool i (private-of e)
-  unfolding entry-test first unless private-of numbers
+  pub entry-in : e .slot < slots → e .offset < pool → found F.Nothing ≡ entry-test slots pool i (private-of e)
+  unfolding entry-test first unless private-of found numbers fields with-chunk
   entry-in l k = rw (lt-ltb (e .slot) slots l, lt-ltb (e .offset) pool k)
 
 module _ (i : ℕ) (before : Before) (e : PrivateEntry) where
-  pub first-entry : before ≡ Nothing → numbers Valid ≡ order-test i (before-of before) (private-of e)
-  unfolding order-test before-of numbers
+  pub first-entry : before ≡ Nothing → found F.Nothing ≡ order-test i (before-of before) (private-of e)
+  unfolding order-test before-of found numbers fields with-chunk
   first-entry z = rw (z, before-of, order-test)
 
   module _ (d : PrivateEntry) (z : before ≡ Entry d) where
-    pub slot-order : e .slot ≤ d .slot → numbers (PrivateCompositeLayoutInvalid i (e .slot) 3) ≡ order-test i (before-of before) (private-of e)
-    unfolding order-test before-of first unless private-of numbers
+    pub slot-order : e .slot ≤ d .slot → found (F.Refused 0 (PrivateCompositeLayoutInvalid i (e .slot) 3)) ≡ order-test i (before-of before) (private-of e)
+    unfolding order-test before-of first unless private-of found numbers fields with-chunk
     slot-order l = rw (z, before-of, order-test, le-ltb (d .slot) (e .slot) l)
 
     pub offset-order : d .slot < e .slot → e .offset ≤ d .offset
-        → numbers (PrivateCompositeLayoutInvalid i (e .slot) 4) ≡ order-test i (before-of before) (private-of e)
-    unfolding order-test before-of first unless private-of numbers
+        → found (F.Refused 0 (PrivateCompositeLayoutInvalid i (e .slot) 4)) ≡ order-test i (before-of before) (private-of e)
+    unfolding order-test before-of first unless private-of found numbers fields with-chunk
     offset-order l k = rw (z, before-of, order-test, lt-ltb (d .slot) (e .slot) l, le-ltb (d .offset) (e .offset) k)
 
-    pub in-order : d .slot < e .slot → d .offset < e .offset → numbers Valid ≡ order-test i (before-of before) (private-of e)
-    unfolding order-test before-of first unless private-of numbers
+    pub in-order : d .slot < e .slot → d .offset < e .offset → found F.Nothing ≡ order-test i (before-of before) (private-of e)
+    unfolding order-test before-of first unless private-of found numbers fields with-chunk
     in-order l k = rw (z, before-of, order-test, lt-ltb (d .slot) (e .slot) l, lt-ltb (d .offset) (e .offset) k)
 
 module _ (t : List ℕ) where
@@ -307,28 +305,28 @@ module _ (t : List ℕ) where
   unfolding privatesOf private-left before-of
   private-start = ap (tests 0 none) (rest-all (privateAt t) (count t 3))
 
-  pub private-end : (i : ℕ) (before : Before) → count t 3 ≤ i → Privates i before → numbers Valid ≡ tests 0 none (privatesOf t)
-  unfolding private-left private-test numbers
+  pub private-end : (i : ℕ) (before : Before) → count t 3 ≤ i → Privates i before → found F.Nothing ≡ tests 0 none (privatesOf t)
+  unfolding private-left private-test found numbers fields with-chunk
   private-end i before l P = sym (P ∙ ap (tests i (before-of before)) (rest-none (privateAt t) (count t 3) i l))
 
   module _ (i : ℕ) (before : Before) (l : i < count t 3) (P : Privates i before) (slots pool : ℕ) (a : slots ≡ count t 1)
-      (b : pool ≡ headerOf t .pool-bytes) (e : PrivateEntry) (x : private-of e ≡ privateAt t i) (r : Layout)
-      (n : numbers r ≡ first (entry-test slots pool i (private-of e)) (order-test i (before-of before) (private-of e))) where
+      (b : pool ≡ headerOf t .pool-bytes) (e : PrivateEntry) (x : private-of e ≡ privateAt t i) (r : Finding)
+      (n : found r ≡ first (entry-test slots pool i (private-of e)) (order-test i (before-of before) (private-of e))) where
     abbrev one : Option (List ℕ)
     one =
         first (entry-test (length (slotsOf t)) (headerOf t .pool-bytes) i (privateAt t i)) (order-test i (before-of before) (privateAt t i))
 
-    one-is : numbers r ≡ one
+    one-is : found r ≡ one
     one-is = n ∙ (rw (x, b, a ∙ sym (slots-are t)))
 
     next : private-left i (before-of before) ≡ first one (private-left (suc i) (some (privateAt t i)))
     unfolding private-left private-test
     next = ap (tests i (before-of before)) (rest-next (privateAt t) (count t 3) i l)
 
-    pub private-bad : OneOf (0 ∷ 1 ∷ 2 ∷ []) (tagOf the-type r) → numbers r ≡ tests 0 none (privatesOf t)
+    pub private-bad : {k : ℕ} {q : Refusal} → r ≡ F.Refused k q → found r ≡ tests 0 none (privatesOf t)
     private-bad o = first-bad r one (private-left (suc i) (some (privateAt t i))) o one-is ∙ sym (P ∙ next)
 
-    pub private-good : r ≡ Valid → Privates (i + 1) (Entry e)
+    pub private-good : r ≡ F.Nothing → Privates (i + 1) (Entry e)
     unfolding before-of
     private-good v =
         rw (add-one, x)
@@ -345,41 +343,25 @@ module _ (t : List ℕ) (h : CodeHeader) (e : header-of h ≡ headerOf t) where
   unfolding header-of
   pool-is = ap (λ (x : Header). x .pool-bytes) e
 
-  log-is : h .«address_log» ≡ headerOf t .address-log
-  unfolding header-of
-  log-is = ap (λ (x : Header). x .address-log) e
-
-  pub log-low : h .«address_log» ≤ 6
-  log-low = omega (arith, log-is, address-low t)
-
-  pub widths-of : (w : Widths) → w .word ≡ h .word → w .float ≡ h .float → w .address ≡ 2 ^ h .«address_log» / 8 → Widths-of (headerOf t) w
-  unfolding header-of address-bytes
-  widths-of w a b c =
-      record {
-        word-is = a ∙ ap (λ (x : Header). x .word) e;
-        float-is = b ∙ ap (λ (x : Header). x .float) e;
-        address-is = c ∙ ap (λ (n : ℕ). 2 ^ n / 8) log-is;
-      }
-
-module _ (t : List ℕ) (r : Layout) (n : numbers r ≡ count-test (slotsOf t) (sharedsOf t)) where
+module _ (t : List ℕ) (r : Finding) (n : found r ≡ count-test (slotsOf t) (sharedsOf t)) where
   abbrev shared-tests : Option (List ℕ)
   shared-tests = shared-test (headerOf t) 0 (sharedsOf t)
 
   abbrev private-tests : Option (List ℕ)
   private-tests = private-test (length (slotsOf t)) (headerOf t .pool-bytes) 0 none (privatesOf t)
 
-  pub counts-bad : OneOf (0 ∷ 1 ∷ 2 ∷ []) (tagOf the-type r) → numbers r ≡ layout-test (moduleOf t)
+  pub counts-bad : {k : ℕ} {q : Refusal} → r ≡ F.Refused k q → found r ≡ layout-test (moduleOf t)
   unfolding layout-test moduleOf
   counts-bad o = first-bad r (count-test (slotsOf t) (sharedsOf t)) (first shared-tests private-tests) o n
 
-  module _ (v : r ≡ Valid) (s : Layout) (m : numbers s ≡ shared-tests) where
-    pub shareds-bad : OneOf (0 ∷ 1 ∷ 2 ∷ []) (tagOf the-type s) → numbers s ≡ layout-test (moduleOf t)
+  module _ (v : r ≡ F.Nothing) (s : Finding) (m : found s ≡ shared-tests) where
+    pub shareds-bad : {k : ℕ} {q : Refusal} → s ≡ F.Refused k q → found s ≡ layout-test (moduleOf t)
     unfolding layout-test moduleOf
     shareds-bad o =
-        first-good r (count-test (slotsOf t) (sharedsOf t)) (first shared-tests private-tests) (numbers s) v n (first-bad s shared-tests private-tests o m)
+        first-good r (count-test (slotsOf t) (sharedsOf t)) (first shared-tests private-tests) (found s) v n (first-bad s shared-tests private-tests o m)
 
-    pub privates-are : s ≡ Valid → (p : Layout) → numbers p ≡ private-tests → numbers p ≡ layout-test (moduleOf t)
+    pub privates-are : s ≡ F.Nothing → (p : Finding) → found p ≡ private-tests → found p ≡ layout-test (moduleOf t)
     unfolding layout-test moduleOf
     privates-are u p k =
-        first-good r (count-test (slotsOf t) (sharedsOf t)) (first shared-tests private-tests) (numbers p) v n
-        (first-good s shared-tests private-tests (numbers p) u m k)
+        first-good r (count-test (slotsOf t) (sharedsOf t)) (first shared-tests private-tests) (found p) v n
+        (first-good s shared-tests private-tests (found p) u m k)

@@ -31,185 +31,22 @@ ghost use Rattle.listing.specs.Rows.{Rowed, Stored, left, shapes-over, v
 ghost use Rattle.listing.specs.Shape.{end-at, top-at, scalar-at, flat-at};
 ghost use Rattle.listing.specs.Num.{result, after, at-most};
 
+mod form;
+mod place;
+mod sort;
+
 // The forms of all lines but ops as bytes, 16 to each, filled up with LF; specs/Scan.antt says what a byte stands for.
-const FORMATS: [u8; 176] = [
-    40,
-    109,
-    111,
-    100,
-    117,
-    108,
-    101,
-    131,
-    131,
-    132,
-    130,
-    130,
-    129,
-    129,
-    10,
-    10,
-    40,
-    115,
-    108,
-    111,
-    116,
-    32,
-    115,
-    104,
-    97,
-    114,
-    101,
-    100,
-    41,
-    10,
-    10,
-    10,
-    40,
-    115,
-    108,
-    111,
-    116,
-    32,
-    112,
-    114,
-    105,
-    118,
-    97,
-    116,
-    101,
-    41,
-    10,
-    10,
-    40,
-    115,
-    104,
-    97,
-    114,
-    101,
-    100,
-    130,
-    128,
-    129,
-    41,
-    10,
-    10,
-    10,
-    10,
-    10,
-    40,
-    112,
-    114,
-    105,
-    118,
-    97,
-    116,
-    101,
-    129,
-    130,
-    41,
-    10,
-    10,
-    10,
-    10,
-    10,
-    40,
-    101,
-    110,
-    117,
-    109,
-    130,
-    41,
-    10,
-    10,
-    10,
-    10,
-    10,
-    10,
-    10,
-    10,
-    10,
-    40,
-    110,
-    97,
-    116,
-    105,
-    118,
-    101,
-    140,
-    41,
-    10,
-    10,
-    10,
-    10,
-    10,
-    10,
-    10,
-    40,
-    115,
-    105,
-    103,
-    140,
-    140,
-    141,
-    41,
-    10,
-    10,
-    10,
-    10,
-    10,
-    10,
-    10,
-    10,
-    40,
-    99,
-    104,
-    117,
-    110,
-    107,
-    129,
-    10,
-    10,
-    10,
-    10,
-    10,
-    10,
-    10,
-    10,
-    10,
-    40,
-    99,
-    111,
-    110,
-    115,
-    116,
-    133,
-    41,
-    10,
-    10,
-    10,
-    10,
-    10,
-    10,
-    10,
-    10,
-    41,
-    10,
-    10,
-    10,
-    10,
-    10,
-    10,
-    10,
-    10,
-    10,
-    10,
-    10,
-    10,
-    10,
-    10,
-    10,
-];
+const FORMATS: [u8; 176] = *b"(module\x83\x83\x84\x82\x82\x81\x81\n\n\
+    (slot shared)\n\n\n\
+    (slot private)\n\n\
+    (shared\x82\x80\x81)\n\n\n\n\n\
+    (private\x81\x82)\n\n\n\n\n\
+    (enum\x82)\n\n\n\n\n\n\n\n\n\
+    (native\x8c)\n\n\n\n\n\n\n\
+    (sig\x8c\x8c\x8d)\n\n\n\n\n\n\n\n\
+    (chunk\x81\n\n\n\n\n\n\n\n\n\
+    (const\x85)\n\n\n\n\n\n\n\n\
+    )\n\n\n\n\n\n\n\n\n\n\n\n\n\n\n";
 
 // A number, or a shape's word, and where it ends.
 pub enum Num {
@@ -309,13 +146,13 @@ fn admits(c: u8, n: u64) -> bool
     ensures { λ r. ⌜ r ≡ admitted c n ⌝ }
 {
     match c {
-        131 => is_width(n),
-        132 => is_address(n),
-        133 => is_constant(n),
-        128 => n <= 255,
-        129 => n <= 65535,
-        130 => n <= 4294967295,
-        134 => n <= 7,
+        sort::WIDTH => is_width(n),
+        sort::ADDRESS => is_address(n),
+        sort::CONSTANT => is_constant(n),
+        sort::BITS_8 => n <= 255,
+        sort::BITS_16 => n <= 65535,
+        sort::BITS_32 => n <= 4294967295,
+        sort::SCALAR => n <= 7,
         _ => n <= 3,
     }
 }
@@ -420,7 +257,7 @@ fn shape_scalar(s: &[u8], i: usize) -> Num
     let Num::Read(_, a) = text(s, i, b" (scalar") else {
         return Num::Bad;
     };
-    let Num::Read(k, b) = number(s, a, 128) else {
+    let Num::Read(k, b) = number(s, a, sort::BITS_8) else {
         return Num::Bad;
     };
     closed(s, b, 1 + 4 * k)
@@ -432,10 +269,10 @@ fn shape_flat(s: &[u8], i: usize) -> Num
     let Num::Read(_, a) = text(s, i, b" (flat") else {
         return Num::Bad;
     };
-    let Num::Read(k, b) = number(s, a, 128) else {
+    let Num::Read(k, b) = number(s, a, sort::BITS_8) else {
         return Num::Bad;
     };
-    let Num::Read(n, d) = number(s, b, 130) else {
+    let Num::Read(n, d) = number(s, b, sort::BITS_32) else {
         return Num::Bad;
     };
     closed(s, d, 2 + 4 * k + 1024 * n)
@@ -488,7 +325,7 @@ fn full_row(next: usize, count: usize, vals: [u64; 19]) -> Row
 fn over(s: &[u8], i: usize, c: u8) -> bool
     ensures { λ r. ⌜ r ≡ shapes-over c (drop i (now (s .entry))) ⌝ }
 {
-    if c != 141 {
+    if c != sort::SHAPES {
         return false;
     }
     if i < s.len() {
@@ -501,10 +338,10 @@ fn over(s: &[u8], i: usize, c: u8) -> bool
 fn value(s: &[u8], i: usize, c: u8) -> Num
     ensures { λ r. ⌜ result (now (s .entry)) r ≡ value-at c (drop i (now (s .entry))) ⌝ }
 {
-    if c == 140 {
+    if c == sort::SHAPE {
         return shape(s, i);
     }
-    if c == 141 {
+    if c == sort::SHAPES {
         return shape(s, i);
     }
     number(s, i, c)
@@ -515,7 +352,7 @@ fn code_after(j: usize, c: u8) -> usize
     requires { ⌜ j < 176 ⌝ }
     ensures { λ r. ⌜ r ≡ code-after j c ⌝ }
 {
-    if c == 141 { j } else { j + 1 }
+    if c == sort::SHAPES { j } else { j + 1 }
 }
 
 // Whether the byte at i is c.
@@ -542,7 +379,7 @@ fn scan(table: &[u8; 176], s: &[u8], f: usize) -> Row
         if c == 10 {
             break;
         }
-        if c < 128 {
+        if c < sort::BITS_8 {
             if !is_byte(s, i, c) {
                 return no_row();
             }
@@ -569,7 +406,7 @@ fn scan(table: &[u8; 176], s: &[u8], f: usize) -> Row
     full_row(i, n, vals)
 }
 
-// A line: the number of its form (86 where it has none), how many values it has (19 for more than 18), and the values from place 1 on.
+// A line: the number of its form (form::NONE where it has none), how many values it has (19 for more than 18), and the values from place 1 on.
 pub struct Entry {
     pub form: usize,
     pub count: usize,
@@ -580,7 +417,7 @@ fn no_entry() -> Entry
     ensures { λ r. ⌜ r .form ≡ 86 ⌝ }
 {
     Entry {
-        form: 86,
+        form: form::NONE,
         count: 0,
         vals: [0u64; 19],
     }
@@ -603,7 +440,7 @@ fn line_entry(s: &[u8]) -> Entry
 {
     let table = line_formats();
     let mut f = 0;
-    while f < 11 {
+    while f < form::FIRST_OP {
         let r = scan(&table, s, f);
         let n = r.count;
         let vals = r.vals;
@@ -656,18 +493,18 @@ fn maximum_code(m: u64) -> u8
     ensures { λ r. ⌜ r ≡ max-code m ⌝ }
 {
     if m == 255 {
-        return 128;
+        return sort::BITS_8;
     }
     if m == 65535 {
-        return 129;
+        return sort::BITS_16;
     }
     if m == 4294967295 {
-        return 130;
+        return sort::BITS_32;
     }
     if m == 7 {
-        return 134;
+        return sort::SCALAR;
     }
-    135
+    sort::COMPOSITE
 }
 
 // The operands of a row, from `at` on.
@@ -726,7 +563,7 @@ fn op_entry(names: &[u64; 781], s: &[u8]) -> Entry
     let vals = r.vals;
     if closes(s, r.next, r.ok) {
         return Entry {
-            form: 11 + row,
+            form: form::FIRST_OP + row,
             count: n,
             vals: vals,
         };
@@ -753,23 +590,26 @@ pub enum Step {
     Locals,
 }
 
-// The table of a form; the closing line, form 10, has none.
+// The closing line stands in no table.
+const CLOSING: usize = bytecode::TABLES;
+
+// The table of a form, or CLOSING.
 fn kind_of(form: usize) -> usize
     ensures { λ r. ⌜ (r ≡ form-kind form) × (r < 11) ⌝ }
 {
     match form {
-        0 => 0,
-        1 => 1,
-        2 => 1,
-        3 => 2,
-        4 => 3,
-        5 => 4,
-        6 => 5,
-        7 => 6,
-        8 => 7,
-        9 => 8,
-        10 => 10,
-        _ => 9,
+        form::MODULE => bytecode::HEADER,
+        form::SHARED_SLOT => bytecode::SLOTS,
+        form::PRIVATE_SLOT => bytecode::SLOTS,
+        form::SHARED => bytecode::SHARED,
+        form::PRIVATE => bytecode::PRIVATE,
+        form::ENUM => bytecode::ENUMS,
+        form::NATIVE => bytecode::NATIVES,
+        form::SIGNATURE => bytecode::SIGNATURES,
+        form::CHUNK => bytecode::CHUNKS,
+        form::CONSTANT => bytecode::CONSTANTS,
+        form::CLOSE => CLOSING,
+        _ => bytecode::INSTRUCTIONS,
     }
 }
 
@@ -779,17 +619,17 @@ fn low_of(kind: usize) -> u64
     ensures { λ r. ⌜ r ≡ getD lows kind 0 ⌝ }
 {
     match kind {
-        0 => 0,
-        1 => 1,
-        2 => 1,
-        3 => 1,
-        4 => 1,
-        5 => 1,
-        6 => 1,
-        7 => 1,
-        8 => 8,
-        9 => 8,
-        _ => 1,
+        bytecode::HEADER => place::START,
+        bytecode::SLOTS => place::SLOTS,
+        bytecode::SHARED => place::SLOTS,
+        bytecode::PRIVATE => place::SLOTS,
+        bytecode::ENUMS => place::SLOTS,
+        bytecode::NATIVES => place::SLOTS,
+        bytecode::SIGNATURES => place::SLOTS,
+        bytecode::CHUNKS => place::SLOTS,
+        bytecode::CONSTANTS => place::CONSTANTS,
+        bytecode::INSTRUCTIONS => place::CONSTANTS,
+        _ => place::SLOTS,
     }
 }
 
@@ -799,17 +639,17 @@ fn high_of(kind: usize) -> u64
     ensures { λ r. ⌜ r ≡ getD highs kind 0 ⌝ }
 {
     match kind {
-        0 => 0,
-        1 => 1,
-        2 => 2,
-        3 => 3,
-        4 => 4,
-        5 => 5,
-        6 => 6,
-        7 => 7,
-        8 => 8,
-        9 => 9,
-        _ => 9,
+        bytecode::HEADER => place::START,
+        bytecode::SLOTS => place::SLOTS,
+        bytecode::SHARED => place::SHARED,
+        bytecode::PRIVATE => place::PRIVATE,
+        bytecode::ENUMS => place::ENUMS,
+        bytecode::NATIVES => place::NATIVES,
+        bytecode::SIGNATURES => place::SIGNATURES,
+        bytecode::CHUNKS => place::CHUNKS,
+        bytecode::CONSTANTS => place::CONSTANTS,
+        bytecode::INSTRUCTIONS => place::INSTRUCTIONS,
+        _ => place::INSTRUCTIONS,
     }
 }
 
@@ -819,16 +659,16 @@ fn place_after_row(kind: usize) -> u64
     ensures { λ r. ⌜ r ≡ getD nexts kind 0 ⌝ }
 {
     match kind {
-        0 => 1,
-        1 => 1,
-        2 => 2,
-        3 => 3,
-        4 => 4,
-        5 => 5,
-        6 => 6,
-        7 => 8,
-        8 => 8,
-        _ => 9,
+        bytecode::HEADER => place::SLOTS,
+        bytecode::SLOTS => place::SLOTS,
+        bytecode::SHARED => place::SHARED,
+        bytecode::PRIVATE => place::PRIVATE,
+        bytecode::ENUMS => place::ENUMS,
+        bytecode::NATIVES => place::NATIVES,
+        bytecode::SIGNATURES => place::SIGNATURES,
+        bytecode::CHUNKS => place::CONSTANTS,
+        bytecode::CONSTANTS => place::CONSTANTS,
+        _ => place::INSTRUCTIONS,
     }
 }
 
@@ -836,11 +676,11 @@ fn place_after(kind: usize, place: u64) -> u64
     requires { ⌜ kind < 11 ⌝ }
     ensures { λ r. ⌜ r ≡ place-after kind place ⌝ }
 {
-    if kind == 10 {
-        if 8 <= place {
-            return 7;
+    if kind == CLOSING {
+        if place::CONSTANTS <= place {
+            return place::CHUNKS;
         }
-        return 10;
+        return place::END;
     }
     place_after_row(kind)
 }
@@ -863,7 +703,7 @@ fn may_stand(place: u64, e: Entry) -> bool
     let vals = e.vals;
     let kind = kind_of(form);
     if stands(place, kind) {
-        if form == 0 {
+        if form == form::MODULE {
             return vals[6] != vals[7];
         }
         return true;
@@ -878,13 +718,13 @@ fn own_limit(e: Entry) -> u64
     let form = e.form;
     let vals = e.vals;
     let n = e.count;
-    if form == 7 {
+    if form == form::SIGNATURE {
         if 18 < n {
             return 2;
         }
         return 0;
     }
-    if form == 8 {
+    if form == form::CHUNK {
         if 32 < vals[1] {
             return 3;
         }
@@ -902,13 +742,13 @@ fn wide_size(x: usize) -> u64
 fn head_word(form: usize, count: usize) -> u64
     ensures { λ r. ⌜ r ≡ head-word form count ⌝ }
 {
-    if 11 <= form {
-        return wide_size(form - 11);
+    if form::FIRST_OP <= form {
+        return wide_size(form - form::FIRST_OP);
     }
-    if form == 1 {
+    if form == form::SHARED_SLOT {
         return 0;
     }
-    if form == 2 {
+    if form == form::PRIVATE_SLOT {
         return 1;
     }
     wide_size(count)
@@ -921,7 +761,7 @@ fn row_words(e: Entry, constants: u64, instructions: u64) -> [u64; 19]
     let form = e.form;
     let mut words = e.vals;
     words[0] = head_word(form, e.count);
-    if form == 8 {
+    if form == form::CHUNK {
         words[2] = constants;
         words[3] = instructions;
         return words;
@@ -935,14 +775,14 @@ fn one_line(names: &[u64; 781], t: &mut [u64], place: u64, s: &[u8]) -> Step
     ensures { λ r. ⌜ ((n : ℕ) (q : Reader) → q .place ≡ place → Held (now (t .entry)) (lists q) → Sound q → StepIs n (next-line n q (now (s .entry))) r (now (t .exit))) × (length (now (t .exit)) ≡ size) ⌝ }
 {
     let e = read_entry(names, s);
-    if 86 <= e.form {
+    if form::NONE <= e.form {
         return Step::Wrong;
     }
     if !may_stand(place, e) {
         return Step::Wrong;
     }
     let k = kind_of(e.form);
-    if k == 10 {
+    if k == CLOSING {
         return Step::On(place_after(k, place));
     }
     if bytecode::cap_of(k) <= t[k] {
@@ -955,7 +795,7 @@ fn one_line(names: &[u64; 781], t: &mut [u64], place: u64, s: &[u8]) -> Step
     if own == 3 {
         return Step::Locals;
     }
-    let row = row_words(e, t[8], t[9]);
+    let row = row_words(e, t[bytecode::CONSTANTS], t[bytecode::INSTRUCTIONS]);
     bytecode::append(t, k, &row);
     Step::On(place_after(k, place))
 }
@@ -988,7 +828,7 @@ fn clear(t: &mut [u64])
     ensures { λ r. ⌜ Held (now (t .exit)) (lists at-start) ⌝ }
 {
     let mut k = 0;
-    while k < 10 {
+    while k < bytecode::TABLES {
         t[k] = 0;
         k += 1;
     }
@@ -1025,7 +865,7 @@ fn read_lines(names: &[u64; 781], s: &[u8], t: &mut [u64]) -> Reading
             }
         }
     }
-    if place == 10 {
+    if place == place::END {
         return Reading::Module;
     }
     Reading::Line(lines)

@@ -11,11 +11,14 @@ use Rattle.definition.specs.Nesting.{first-broken, too-deep, find-chunk, refuse
 use Rattle.definition.specs.Check.{nesting-test}
 use Rattle.bytecode.specs.Lists.{tabulate}
 use Rattle.bytecode.specs.Meaning.{count, chunkOf, chunksOf}
-use Rattle.nesting.specs.Answer.{numbers, Verdict, broken-of, deep-of, deeper-of-all}
+use Rattle.nesting.specs.Answer.{Verdict, broken-of, deep-of, deeper-of-all}
 use Rattle.nesting.specs.declared.ChunkNesting.{ChunkNesting}
 use Rattle.nesting.specs.declared.ChunkNesting.the-variants as one
-use Rattle.nesting.specs.declared.Nesting.{Nesting}
-use Rattle.nesting.specs.declared.Nesting.the-variants.{Broken, TooDeep, Nested}
+use Rattle.answer.specs.declared.Refusal.{Refusal}
+use Rattle.answer.specs.declared.Refusal.the-variants.{NotNested, LimitPassed}
+use Rattle.answer.specs.declared.Finding.{Finding}
+use Rattle.answer.specs.declared.Finding.the-variants.{Nothing, Refused}
+use Rattle.answer.specs.Answer.{found as numbers, numbers as numbers-in, fields, with-chunk}
 
 -- the chunks from number k on
 unfoldable pub rest : List ℕ → ℕ → List Chunk
@@ -53,29 +56,28 @@ module _ (t : List ℕ) where
   at-end f k l = ap (find-chunk f k) (none-left t k l)
 
   -- what was found before chunk k
-  abbrev Deepest : ℕ → Nesting → Type 0
-  Deepest k (Broken l q) = ⊥
-  Deepest k (TooDeep l q) = found-in too-deep 0 ≡ some (l, q)
-  Deepest k Nested = found-in too-deep 0 ≡ found-in too-deep k
+  abbrev Deepest : ℕ → Finding → Type 0
+  Deepest k (Refused l r) = (q : ℕ) × (r ≡ LimitPassed q 4) × (found-in too-deep 0 ≡ some (l, q))
+  Deepest k Nothing = found-in too-deep 0 ≡ found-in too-deep k
 
-  pub record State (k : ℕ) (found : Nesting) : Type 0 where
+  pub record State (k : ℕ) (found : Finding) : Type 0 where
     pub broken : found-in first-broken 0 ≡ found-in first-broken k
     pub deep : Deepest k found
 
-  pub start : State 0 Nested
+  pub start : State 0 Nothing
   start = record { broken = refl; deep = refl }
 
-  answer : (r : Nesting) (a b : Option (ℕ × ℕ)) → found-in first-broken 0 ≡ a → found-in too-deep 0 ≡ b
+  answer : (r : Finding) (a b : Option (ℕ × ℕ)) → found-in first-broken 0 ≡ a → found-in too-deep 0 ≡ b
       → numbers r ≡ first (refuse-broken a) (refuse-deep b) → numbers r ≡ nesting-test (chunksOf t)
   unfolding nesting-test
   answer r a b x y e = e ∙ rw (all-left t, x, y)
 
-  module _ (k : ℕ) (found : Nesting) (S : State k found) where
+  module _ (k : ℕ) (found : Finding) (S : State k found) where
     module _ (l : k < count t 7) (r : ChunkNesting) (v : Verdict (chunkOf t k) r) where
-      pub is-broken : (p : ℕ) → r ≡ one.Broken p → numbers (Broken k p) ≡ nesting-test (chunksOf t)
-      unfolding broken-of numbers first refuse-broken
+      pub is-broken : (p : ℕ) → r ≡ one.Broken p → numbers (Refused k (NotNested p)) ≡ nesting-test (chunksOf t)
+      unfolding broken-of numbers numbers-in fields with-chunk first refuse-broken
       is-broken p e =
-          answer (Broken k p) (some (k, p)) (found-in too-deep 0) (S .broken ∙ at-some first-broken k p l (v .broken ∙ ap broken-of e)) refl refl
+          answer (Refused k (NotNested p)) (some (k, p)) (found-in too-deep 0) (S .broken ∙ at-some first-broken k p l (v .broken ∙ ap broken-of e)) refl refl
 
       none-here : broken-of r ≡ none → found-in first-broken 0 ≡ found-in first-broken (suc k)
       none-here e = S .broken ∙ at-none first-broken k l (v .broken ∙ e)
@@ -86,31 +88,28 @@ module _ (t : List ℕ) where
           let x : broken-of r ≡ none = ap broken-of e in
           rw add-one record { broken = none-here x; deep = go found (v .deep (v .broken ∙ x) ∙ ap deep-of e) (S .deep) }
         where
-          go : (f : Nesting) → too-deep (chunkOf t k) ≡ none → Deepest k f → Deepest (suc k) f
-          go (Broken a b) y d = d
-          go (TooDeep a b) y d = d
-          go Nested y d = d ∙ at-none too-deep k l y
+          go : (f : Finding) → too-deep (chunkOf t k) ≡ none → Deepest k f → Deepest (suc k) f
+          go (Refused a b) y d = d
+          go Nothing y d = d ∙ at-none too-deep k l y
 
-      pub is-deep : (p : ℕ) (f : Nesting) → r ≡ one.TooDeep p → f ≡ deeper-of-all found k p → State (k + 1) f
+      pub is-deep : (p : ℕ) (f : Finding) → r ≡ one.TooDeep p → f ≡ deeper-of-all found k p → State (k + 1) f
       unfolding broken-of deep-of deeper-of-all
       is-deep p f e w =
           let x : broken-of r ≡ none = ap broken-of e in
           rw add-one
           record { broken = none-here x; deep = subst (Deepest (suc k)) (sym w) (go found (v .deep (v .broken ∙ x) ∙ ap deep-of e) (S .deep)) }
         where
-          go : (f : Nesting) → too-deep (chunkOf t k) ≡ some p → Deepest k f → Deepest (suc k) (deeper-of-all f k p)
-          go (Broken a b) y d = d
-          go (TooDeep a b) y d = d
-          go Nested y d = d ∙ at-some too-deep k p l y
+          go : (f : Finding) → too-deep (chunkOf t k) ≡ some p → Deepest k f → Deepest (suc k) (deeper-of-all f k p)
+          go (Refused a b) y d = d
+          go Nothing y d = (p, refl, d ∙ at-some too-deep k p l y)
 
     pub ends-well : count t 7 ≤ k → numbers found ≡ nesting-test (chunksOf t)
-    unfolding numbers first refuse-broken refuse-deep
+    unfolding numbers numbers-in fields with-chunk first refuse-broken refuse-deep
     ends-well l = go found (S .deep)
       where
         clear : found-in first-broken 0 ≡ none
         clear = S .broken ∙ at-end first-broken k l
 
-        go : (f : Nesting) → Deepest k f → numbers f ≡ nesting-test (chunksOf t)
-        go (Broken a b) d = absurd d
-        go (TooDeep a b) d = answer (TooDeep a b) none (some (a, b)) clear d refl
-        go Nested d = answer Nested none none clear (d ∙ at-end too-deep k l) refl
+        go : (f : Finding) → Deepest k f → numbers f ≡ nesting-test (chunksOf t)
+        go (Refused a r) (q, e, d) = answer (Refused a r) none (some (a, q)) clear d (rw e)
+        go Nothing d = answer Nothing none none clear (d ∙ at-end too-deep k l) refl

@@ -8,12 +8,13 @@ use types.Run.{OneOf}
 use denote.Enum.Declared.{tagOf}
 use borrow.Author.Tests.{lt-ltb, le-ltb}
 use Rattle.nesting.proofs.ChunkNesting as chunk-type
-use Rattle.nesting.proofs.Nesting as all-type
 use Rattle.nesting.specs.Answer.{deeper, deeper-of-all}
 use Rattle.nesting.specs.declared.ChunkNesting.{ChunkNesting}
 use Rattle.nesting.specs.declared.ChunkNesting.the-variants as one
-use Rattle.nesting.specs.declared.Nesting.{Nesting}
-use Rattle.nesting.specs.declared.Nesting.the-variants.{Broken, TooDeep, Nested}
+use Rattle.answer.specs.declared.Refusal.{Refusal}
+use Rattle.answer.specs.declared.Refusal.the-variants.{LimitPassed}
+use Rattle.answer.specs.declared.Finding.{Finding}
+use Rattle.answer.specs.declared.Finding.the-variants.{Nothing, Refused}
 
 module _ (found : ChunkNesting) (h p : ℕ) where
   pub deep-new : found ≡ one.Nested → 8 < h → one.TooDeep p ≡ deeper found h p
@@ -30,12 +31,10 @@ deep-old (one.Broken q) h p o = refl
 deep-old (one.TooDeep q) h p o = refl
 deep-old one.Nested h p o = absurd (⊎-elim (λ e. omega arith) (λ e. omega arith) o)
 
-pub found-new : (found : Nesting) (k p : ℕ) → found ≡ Nested → TooDeep k p ≡ deeper-of-all found k p
+pub found-new : (found : Finding) (k p : ℕ) → found ≡ Nothing → Refused k (LimitPassed p 4) ≡ deeper-of-all found k p
 unfolding deeper-of-all
 found-new found k p e = rw (e, deeper-of-all)
 
-pub found-old : (found : Nesting) (k p : ℕ) → OneOf (0 ∷ 1 ∷ []) (tagOf all-type.the-type found) → found ≡ deeper-of-all found k p
+pub found-old : (found : Finding) {l : ℕ} {r : Refusal} (k p : ℕ) → found ≡ Refused l r → found ≡ deeper-of-all found k p
 unfolding deeper-of-all
-found-old (Broken l q) k p o = refl
-found-old (TooDeep l q) k p o = refl
-found-old Nested k p o = absurd (⊎-elim (λ e. omega arith) (λ e. omega arith) o)
+found-old found k p e = rw (e, deeper-of-all)

@@ -9,14 +9,9 @@ use Rattle.definition.specs.Instructions.{Chunk}
 use Rattle.definition.specs.Nesting.{first-broken, too-deep}
 use Rattle.nesting.specs.declared.ChunkNesting.{ChunkNesting}
 use Rattle.nesting.specs.declared.ChunkNesting.the-variants as one
-use Rattle.nesting.specs.declared.Nesting.{Nesting}
-use Rattle.nesting.specs.declared.Nesting.the-variants.{Broken, TooDeep, Nested}
-
--- 01: "2 carries ip (0 if none) and limit, 3 ip", after number and chunk; nothing where the chunks are nested and no limit is passed.
-unfoldable pub numbers : Nesting → Option (List ℕ)
-numbers (Broken k p) = some (3 ∷ k ∷ p ∷ [])
-numbers (TooDeep k p) = some (2 ∷ k ∷ p ∷ 4 ∷ [])
-numbers Nested = none
+use Rattle.answer.specs.declared.Refusal.the-variants.{LimitPassed}
+use Rattle.answer.specs.declared.Finding.{Finding}
+use Rattle.answer.specs.declared.Finding.the-variants.{Nothing, Refused}
 
 -- ── One chunk ─────────────────────────────────────────────────────────────────────────────
 
@@ -46,7 +41,6 @@ deeper one.Nested h p = elim (ltb 8 h) [ true ↦ one.TooDeep p | false ↦ one.
 -- ── All chunks ────────────────────────────────────────────────────────────────────────────
 
 -- what was found before, else the place p of chunk k
-unfoldable pub deeper-of-all : Nesting → ℕ → ℕ → Nesting
-deeper-of-all (Broken l q) k p = Broken l q
-deeper-of-all (TooDeep l q) k p = TooDeep l q
-deeper-of-all Nested k p = TooDeep k p
+unfoldable pub deeper-of-all : Finding → ℕ → ℕ → Finding
+deeper-of-all (Refused l r) k p = Refused l r
+deeper-of-all Nothing k p = Refused k (LimitPassed p 4)

@@ -7,11 +7,16 @@ ghost use Rattle.definition.specs.Instructions.{Chunk, control};
 ghost use Rattle.definition.specs.Check.{nesting-test};
 ghost use Rattle.bytecode.specs.Meaning.{maxima-of, chunkOf, chunksOf};
 ghost use Rattle.bytecode.specs.Parts.{instrOf};
+ghost use Rattle.answer.specs.Answer.{found as numbers};
 ghost use Rattle.nesting.specs.Codes.{partOf, part-in, Coded, Code-is};
 ghost use Rattle.nesting.specs.Blocks.{Fits};
-ghost use Rattle.nesting.specs.Answer.{numbers, Verdict, deeper, deeper-of-all};
+ghost use Rattle.nesting.specs.Answer.{Verdict, deeper, deeper-of-all};
 ghost use Rattle.nesting.specs.Steps.{Right, Right-two, Right-one, Right-if, Right-loop, Tells, Closes, stay-if, pop-if, break-of, open-at};
+use answer::Finding;
+use answer::Refusal;
+use answer::limit;
 use bytecode;
+use bytecode::code;
 
 // An instruction's part in nesting. BreakIf is as Break.
 enum Part {
@@ -52,13 +57,6 @@ enum ChunkNesting {
     Nested,
 }
 
-// The same of all chunks.
-pub enum Nesting {
-    Broken { chunk: usize, ip: u16 },
-    TooDeep { chunk: usize, ip: u16 },
-    Nested,
-}
-
 fn part_of(i: bytecode::Instr) -> Part
     requires { ⌜ (i .code < 75) × (i .a ≤ getD (maxima-of (i .code)) 0 0) ⌝ }
     ensures { λ r. ⌜ r ≡ partOf (control (instrOf i)) ⌝ }
@@ -66,14 +64,14 @@ fn part_of(i: bytecode::Instr) -> Part
     let code = i.code;
     let target = i.a;
     match code {
-        0..=64 => Part::Other,
-        65 => Part::If(target as u16),
-        66 => Part::Break(target as u16),
-        67 => Part::Else(target as u16),
-        68 => Part::EndIf,
-        69 => Part::Loop(target as u16),
-        70 => Part::EndLoop,
-        71 => Part::Break(target as u16),
+        code::CONST..=code::TRAP => Part::Other,
+        code::IF => Part::If(target as u16),
+        code::BREAK_IF => Part::Break(target as u16),
+        code::ELSE => Part::Else(target as u16),
+        code::END_IF => Part::EndIf,
+        code::LOOP => Part::Loop(target as u16),
+        code::END_LOOP => Part::EndLoop,
+        code::BREAK => Part::Break(target as u16),
         _ => Part::Other,
     }
 }
@@ -363,26 +361,32 @@ fn check_chunk(t: &[u64], k: usize) -> ChunkNesting
 }
 
 // What was found first in the chunks before k, or what chunk k adds.
-fn first_found(found: Nesting, k: usize, p: u16) -> Nesting
+fn first_found(found: Finding, k: usize, p: u16) -> Finding
     ensures { λ r. ⌜ r ≡ deeper-of-all found k p ⌝ }
 {
     match found {
-        Nesting::Nested => Nesting::TooDeep { chunk: k, ip: p },
-        _ => found,
+        Finding::Nothing => {
+            let ip = p as u64;
+            Finding::Refused(k as u64, Refusal::LimitPassed(ip, limit::BLOCKS))
+        }
+        Finding::Refused(_, _) => found,
     }
 }
 
 // The nesting of all chunks: the first instruction that breaks a rule, chunk by chunk; then the first opener making more than eight open blocks.
-pub fn check_nesting(t: &[u64]) -> Nesting
+pub fn check_nesting(t: &[u64]) -> Finding
     ensures { λ r. ⌜ numbers r ≡ nesting-test (chunksOf (now (t .entry))) ⌝ }
 {
-    let n = bytecode::count(t, 7);
+    let n = bytecode::count(t, bytecode::CHUNKS);
     let mut k = 0;
-    let mut found = Nesting::Nested;
+    let mut found = Finding::Nothing;
     while k < n {
         let r = check_chunk(t, k);
         match r {
-            ChunkNesting::Broken(p) => return Nesting::Broken { chunk: k, ip: p },
+            ChunkNesting::Broken(p) => {
+                let ip = p as u64;
+                return Finding::Refused(k as u64, Refusal::NotNested(ip));
+            }
             ChunkNesting::TooDeep(p) => {
                 found = first_found(found, k, p);
                 k += 1;

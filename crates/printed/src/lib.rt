@@ -134,7 +134,7 @@ fn put_chunks(out: &mut [u8], at: usize, t: &[u64], heights: &[u8], blinds: &[u8
     requires { ⌜ (length (all-ops (moduleOf (now t) .chunks)) ≤ 4096) × (at + 18 * 4096 ≤ length (now out)) ⌝ }
     ensures { λ r. ⌜ Written (now (out .entry)) at (print-chunks (of-sheets (now (heights .entry)) (now (blinds .entry))) 0 0 (sizes (moduleOf (now (t .entry)) .chunks))) (now (out .exit)) r × (r ≤ at + 18 * 4096) ⌝ }
 {
-    let n = bytecode::count(t, 7);
+    let n = bytecode::count(t, bytecode::CHUNKS);
     let mut next = at;
     let mut base = 0;
     let mut k = 0;
@@ -163,7 +163,7 @@ pub fn print_accepted(t: &[u64], heights: &[u8], blinds: &[u8], out: &mut [u8; R
     requires { ⌜ length (all-ops (moduleOf (now t) .chunks)) ≤ 4096 ⌝ }
     ensures { λ r. ⌜ Holds (now (out .exit)) r (accepted-text (now (t .entry)) (now (heights .entry)) (now (blinds .entry))) ⌝ }
 {
-    let chunks = bytecode::count(t, 7);
+    let chunks = bytecode::count(t, bytecode::CHUNKS);
     let instructions = sheets::all_instructions(t);
     let at = put_header(out, chunks, instructions);
     put_chunks(out, at, t, heights, blinds)

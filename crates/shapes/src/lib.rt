@@ -1,5 +1,6 @@
 // Shapes of operands and locals, with their text places.
 use value_layout::Widths;
+use value_layout::scalar;
 ghost use mathlib.Core.Path.{_≡_};
 ghost use mathlib.Core.Bool.{Bool, _&&_};
 ghost use mathlib.Core.List.{List, _∷_, _++_, []};
@@ -15,6 +16,13 @@ ghost use Rattle.value_layout.specs.Sizes.{Wide};
 ghost use Rattle.shapes.specs.Model.{shapeOf, plainOf, placesOf, countOf, valueOf};
 ghost use Rattle.shapes.specs.Cover.{covers};
 ghost use Rattle.shapes.specs.Text.{Holds, packedOf, Means, bytes, Took};
+
+// A count of text places is 0 to 16; more than sixteen were met; or they are unknown.
+pub const MOST_PLACES: u8 = 16;
+
+pub const MANY_PLACES: u8 = 17;
+
+pub const UNKNOWN_PLACES: u8 = 255;
 
 // ---- shapes
 
@@ -105,8 +113,8 @@ pub fn saturating_add(a: u32, b: u32) -> u32
 fn same_places(k: u8, p: [u32; 16], j: u8, q: [u32; 16]) -> bool
     ensures { λ r. ⌜ r ≡ same-text (placesOf k p) (placesOf j q) ⌝ }
 {
-    if 16 < k {
-        return 16 < j;
+    if MOST_PLACES < k {
+        return MOST_PLACES < j;
     }
     if k != j {
         return false;
@@ -160,9 +168,12 @@ impl Places {
         ensures { λ r. ⌜ (r .count ≤ 17) × ((l : List ℕ) → Holds (self .count) (self .at) l → Holds (r .count) (r .at) (l ++ (o ∷ []))) ⌝ }
     {
         let n = self.count;
-        if 16 <= n {
+        if MOST_PLACES <= n {
             let p = self.at;
-            return Places { count: 17, at: p };
+            return Places {
+                count: MANY_PLACES,
+                at: p,
+            };
         }
         let mut p = self.at;
         let i = n as usize;
@@ -193,8 +204,8 @@ fn add_place(held: &mut [u32; 16], count: u8, o: u32) -> u8
     requires { ⌜ (length (now held) ≡ 16) × (count ≤ 17) ⌝ }
     ensures { λ r. ⌜ (length (now (held .exit)) ≡ 16) × (r ≤ 17) × ((l : List ℕ) → Holds count (now (held .entry)) l → Holds r (now (held .exit)) (l ++ (o ∷ []))) ⌝ }
 {
-    if 16 <= count {
-        return 17;
+    if MOST_PLACES <= count {
+        return MANY_PLACES;
     }
     let i = count as usize;
     held[i] = o;
@@ -235,7 +246,7 @@ pub fn add_text(held: &mut [u32; 16], count: u8, at: u32, v: Value) -> Added
             count: count,
         },
         Shape::Scalar(k) => {
-            if k == 6 {
+            if k == scalar::TEXT {
                 let n = add_place(held, count, at);
                 Added {
                     open: false,
@@ -250,7 +261,7 @@ pub fn add_text(held: &mut [u32; 16], count: u8, at: u32, v: Value) -> Added
         }
         Shape::Composite(_, _) => {
             let n = v.known;
-            if 16 < n {
+            if MOST_PLACES < n {
                 Added {
                     open: true,
                     count: count,
@@ -284,11 +295,15 @@ fn places_within(n: u8, ps: [u32; 16], at: u32, size: u32) -> Places
     out
 }
 
-// Whether each of the first e elements of size bytes has the places `first`.
+// Whether each of the first e elements of size bytes has the places `first`. More elements than places are alike only where no place lies inside them.
 fn elements_alike(e: u32, n: u8, ps: [u32; 16], size: u32, first: Places) -> bool
     requires { ⌜ (n ≤ 16) × (e * size < 4294967296) × (first .count ≤ 16) × (take (first .count) (first .at) ≡ places-within 0 size (take n ps)) ⌝ }
     ensures { λ r. ⌜ r ≡ elements-alike e size (take n ps) ⌝ }
 {
+    if (n as u32) < e {
+        let all = places_within(n, ps, 0, e * size);
+        return all.count == 0;
+    }
     let fc = first.count;
     let fa = first.at;
     let mut i: u32 = 0;
@@ -320,7 +335,7 @@ pub fn unknown_value() -> Value
 {
     Value {
         shape: Shape::Unknown,
-        known: 255,
+        known: UNKNOWN_PLACES,
         places: [0u32; 16],
     }
 }
@@ -331,7 +346,7 @@ pub fn scalar_value(k: u8) -> Value
 {
     Value {
         shape: Shape::Scalar(k),
-        known: 255,
+        known: UNKNOWN_PLACES,
         places: [0u32; 16],
     }
 }
@@ -354,7 +369,7 @@ pub fn declared_value(shape: Shape) -> Value
 {
     Value {
         shape: shape,
-        known: 255,
+        known: UNKNOWN_PLACES,
         places: [0u32; 16],
     }
 }
@@ -409,7 +424,7 @@ impl Value {
                 return true;
             };
             let n = self.known;
-            if 16 < n {
+            if MOST_PLACES < n {
                 return true;
             }
             let p = self.places;
@@ -428,10 +443,16 @@ impl Value {
         let p = self.places;
         let n = self.known;
         let Shape::Composite(_, _) = shape else {
-            return Places { count: 255, at: p };
+            return Places {
+                count: UNKNOWN_PLACES,
+                at: p,
+            };
         };
-        if 16 < n {
-            return Places { count: 255, at: p };
+        if MOST_PLACES < n {
+            return Places {
+                count: UNKNOWN_PLACES,
+                at: p,
+            };
         }
         places_within(n, p, at, size)
     }
@@ -444,22 +465,37 @@ impl Value {
         let p = self.places;
         let n = self.known;
         let Shape::Composite(_, m) = shape else {
-            return Places { count: 255, at: p };
+            return Places {
+                count: UNKNOWN_PLACES,
+                at: p,
+            };
         };
-        if 16 < n {
-            return Places { count: 255, at: p };
+        if MOST_PLACES < n {
+            return Places {
+                count: UNKNOWN_PLACES,
+                at: p,
+            };
         }
         if size == 0 {
-            return Places { count: 255, at: p };
+            return Places {
+                count: UNKNOWN_PLACES,
+                at: p,
+            };
         }
         if m % size != 0 {
-            return Places { count: 255, at: p };
+            return Places {
+                count: UNKNOWN_PLACES,
+                at: p,
+            };
         }
         let first = places_within(n, p, 0, size);
         if elements_alike(m / size, n, p, size, first) {
             first
         } else {
-            Places { count: 255, at: p }
+            Places {
+                count: UNKNOWN_PLACES,
+                at: p,
+            }
         }
     }
 }
@@ -468,7 +504,11 @@ impl Value {
 pub fn known_places(known: u8) -> usize
     ensures { λ r. ⌜ (r ≤ 16) × (r ≡ countOf known) ⌝ }
 {
-    if 16 < known { 0 } else { known as usize }
+    if MOST_PLACES < known {
+        0
+    } else {
+        known as usize
+    }
 }
 
 // How many text places a new composite has: so many, over sixteen, or not known.
@@ -498,7 +538,7 @@ impl Places {
     {
         let k = self.count;
         let p = self.at;
-        if 16 < k {
+        if MOST_PLACES < k {
             Built {
                 count: Count::Many,
                 places: p,

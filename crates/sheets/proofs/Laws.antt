@@ -11,8 +11,9 @@ use Rattle.definition.specs.Module.{Code, all-ops}
 use Rattle.definition.specs.Check.{sheets-test}
 use Rattle.bytecode.specs.Lists.{tabulate, tabulate-length}
 use Rattle.bytecode.specs.Meaning.{count, opAt, codeOf, moduleOf, first-op, op-count}
-use Rattle.sheets.specs.Answer.{numbers}
-use Rattle.sheets.specs.declared.Room.the-variants.{TooShort, Enough}
+use Rattle.answer.specs.declared.Refusal.the-variants.{SheetTooShort}
+use Rattle.answer.specs.declared.Finding.the-variants.{Nothing, Refused}
+use Rattle.answer.specs.Answer.{found, numbers, fields, with-chunk}
 
 module _ (t : List ℕ) where
   -- the chunks from number k on
@@ -46,10 +47,10 @@ module _ (t : List ℕ) where
       omega (arith, ap (λ (cs : List Code). length (all-ops cs)) a)
 
 module _ (n h b i l : ℕ) (e : i ≡ n) (f : l ≡ min h b) where
-  pub too-short : l < i → numbers (TooShort i l) ≡ sheets-test n h b
-  unfolding numbers sheets-test unless
+  pub too-short : l < i → found (Refused 0 (SheetTooShort i l)) ≡ sheets-test n h b
+  unfolding found numbers fields with-chunk sheets-test unless
   too-short k = rw (e, f, lt-leb n (min h b) (omega arith))
 
-  pub enough : i ≤ l → numbers Enough ≡ sheets-test n h b
-  unfolding numbers sheets-test unless
+  pub enough : i ≤ l → found Nothing ≡ sheets-test n h b
+  unfolding found numbers fields with-chunk sheets-test unless
   enough k = rw (le-leb n (min h b) (omega arith))

@@ -10,8 +10,8 @@ use Rattle.answer.specs.declared.Answer.{Answer}
 use Rattle.answer.specs.declared.Numbers.{Numbers}
 use Rattle.answer.specs.Answer.{answerOf}
 use Rattle.answer.specs.Numbers.{values-of, row-of}
-use Rattle.typed_check.specs.Equal.{checkedOf, Sound as Sound-answer}
-use Rattle.stagecheck_c.specs.Row.{Given, Sound}
+use Rattle.typed_check.specs.Equal.{checkedOf, Sound}
+use Rattle.stagecheck_c.specs.Row.{Given}
 
 -- words of which the first i are copied over others
 abbrev pub copied : ℕ → List ℕ → List ℕ → List ℕ
@@ -51,6 +51,6 @@ given-all c a n words heights blinds e f g =
       blinds-are = ap (λ (z : Checked). z .blinds) e;
     }
 
-pub sound-all : (c : Checked) (s : Bytes) (a : Answer) (heights blinds : List ℕ) → checkedOf a heights blinds ≡ c → Sound-answer a s heights blinds →
-    Sound c s heights blinds
+pub sound-all : (c : Checked) (s : Bytes) (a : Answer) (heights blinds : List ℕ) → checkedOf a heights blinds ≡ c → Sound (answerOf a) s heights blinds →
+    Sound (c .answer) s heights blinds
 sound-all c s a heights blinds e f chunks instructions q = f chunks instructions (ap (λ (z : Checked). z .answer) e ∙ q)

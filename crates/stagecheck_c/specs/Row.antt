@@ -2,9 +2,7 @@
 use mathlib.Core.Path.{_≡_}
 use mathlib.Core.List.{List}
 use Prim.Native.Nat.{ℕ}
-use Rattle.definition.specs.Check.{Checked, accepted}
-use Rattle.definition.specs.Demand.{Demand3}
-use Rattle.definition.specs.Format.{Bytes}
+use Rattle.definition.specs.Check.{Checked}
 use Rattle.answer.specs.Numbers.{values-of, row-of}
 
 -- The words are the answer's values with zeros after them, and n says how many values there are; the sheets are the definition's.
@@ -13,7 +11,3 @@ pub record Given (c : Checked) (n : ℕ) (words heights blinds : List ℕ) : Typ
   pub words-are : words ≡ row-of (values-of (c .answer)) .words
   pub heights-are : heights ≡ c .heights
   pub blinds-are : blinds ≡ c .blinds
-
--- Where the listing is accepted, demand 3 holds of it and of both sheets.
-abbrev pub Sound : Checked → Bytes → List ℕ → List ℕ → Type 0
-Sound c listing heights blinds = (chunks instructions : ℕ) → c .answer ≡ accepted chunks instructions → Demand3 listing heights blinds

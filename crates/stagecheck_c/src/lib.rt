@@ -2,7 +2,8 @@
 ghost use mathlib.Core.Path.{_≡_};
 ghost use lib.ListN.{length};
 ghost use Rattle.definition.specs.Check.{check};
-ghost use Rattle.stagecheck_c.specs.Row.{Given, Sound};
+ghost use Rattle.typed_check.specs.Equal.{Sound};
+ghost use Rattle.stagecheck_c.specs.Row.{Given};
 
 // The words of an answer, into words that the caller lends.
 fn give(words: [u64; 8], out: &mut [u64])
@@ -26,7 +27,7 @@ pub extern "C" fn stagecheck_check_in(
     answer: &mut [u64; 8],
 ) -> usize
     ensures { λ r. ⌜ Given (check (now (listing .entry)) (length (now (heights .entry))) (length (now (blinds .entry)))) r (now (answer .exit)) (now (heights .exit)) (now (blinds .exit)) ⌝ }
-    ensures { λ r. ⌜ Sound (check (now (listing .entry)) (length (now (heights .entry))) (length (now (blinds .entry)))) (now (listing .entry)) (now (heights .exit)) (now (blinds .exit)) ⌝ }
+    ensures { λ r. ⌜ Sound (check (now (listing .entry)) (length (now (heights .entry))) (length (now (blinds .entry))) .answer) (now (listing .entry)) (now (heights .exit)) (now (blinds .exit)) ⌝ }
 {
     let a = typed_check::check_into(listing, tables, heights, blinds);
     let n = a.numbers();
@@ -45,7 +46,7 @@ pub extern "C" fn stagecheck_check(
     answer: &mut [u64; 8],
 ) -> usize
     ensures { λ r. ⌜ Given (check (now (listing .entry)) (length (now (heights .entry))) (length (now (blinds .entry)))) r (now (answer .exit)) (now (heights .exit)) (now (blinds .exit)) ⌝ }
-    ensures { λ r. ⌜ Sound (check (now (listing .entry)) (length (now (heights .entry))) (length (now (blinds .entry)))) (now (listing .entry)) (now (heights .exit)) (now (blinds .exit)) ⌝ }
+    ensures { λ r. ⌜ Sound (check (now (listing .entry)) (length (now (heights .entry))) (length (now (blinds .entry))) .answer) (now (listing .entry)) (now (heights .exit)) (now (blinds .exit)) ⌝ }
 {
     let mut tables = [0u64; 22232];
     stagecheck_check_in(listing, &mut tables, heights, blinds, answer)

@@ -25,9 +25,9 @@ use Rattle.answer.specs.declared.Refusal.the-variants as R
 use Rattle.answer.specs.declared.Answer.{Answer}
 use Rattle.answer.specs.declared.Answer.the-variants as A
 use Rattle.answer.specs.declared.Numbers.{Numbers}
-use Rattle.answer.specs.Answer.{numbers, answerOf}
+use Rattle.answer.specs.Answer.{numbers, fields, with-chunk, answerOf}
 use Rattle.answer.specs.Numbers.{row-of}
-use Rattle.typed_check.specs.Equal.{checkedOf, Holds as Tables-hold}
+use Rattle.typed_check.specs.Equal.{checkedOf, Tabled}
 use Rattle.printed.specs.Texts.{acceptance, accepted-text}
 use Rattle.printed.specs.Writes.{Holds}
 
@@ -37,27 +37,27 @@ renamed {out} {n} e h = subst (Holds out n) e h
 
 -- ── The numbers of a refusal ──────────────────────────────────────────────────────────────
 
-pub few : (r : Refusal) → length (numbers r) ≤ 8
-unfolding numbers
-few (R.CannotFollow a) = omega arith
-few (R.LimitPassed a b c) = omega arith
-few (R.NotNested a b) = omega arith
-few (R.SheetTooShort a b) = omega arith
-few (R.StackUnderflow a b) = omega arith
-few (R.OffsetOutOfBounds a b c d e) = omega arith
-few (R.ExpectedComposite a b) = omega arith
-few (R.NewCompositeSizeMismatch a b c d) = omega arith
-few (R.TextFieldMismatch a b c) = omega arith
-few (R.BranchHeightMismatch a b c d) = omega arith
-few (R.LoopNotNeutral a b c d) = omega arith
-few (R.LoopFloorBreach a b c d e) = omega arith
-few (R.LocalTypeMismatch a b c) = omega arith
-few (R.CallArgMismatch a b c d) = omega arith
-few (R.ArrayStrideMismatch a b c d) = omega arith
-few (R.SharedSlotOutOfBounds a b c d) = omega arith
-few (R.EnumBodySizeMismatch a b c) = omega arith
-few (R.PrivateCompositeLayoutInvalid a b c) = omega arith
-few (R.SharedLayoutCountMismatch a b c) = omega arith
+pub few : (k : ℕ) (r : Refusal) → length (numbers k r) ≤ 8
+unfolding numbers fields with-chunk
+few k (R.CannotFollow a) = omega arith
+few k (R.LimitPassed a b) = omega arith
+few k (R.NotNested a) = omega arith
+few k (R.SheetTooShort a b) = omega arith
+few k (R.StackUnderflow a) = omega arith
+few k (R.OffsetOutOfBounds a b c d) = omega arith
+few k (R.ExpectedComposite a) = omega arith
+few k (R.NewCompositeSizeMismatch a b c) = omega arith
+few k (R.TextFieldMismatch a b) = omega arith
+few k (R.BranchHeightMismatch a b c) = omega arith
+few k (R.LoopNotNeutral a b c) = omega arith
+few k (R.LoopFloorBreach a b c d) = omega arith
+few k (R.LocalTypeMismatch a b) = omega arith
+few k (R.CallArgMismatch a b c) = omega arith
+few k (R.ArrayStrideMismatch a b c) = omega arith
+few k (R.SharedSlotOutOfBounds a b c d) = omega arith
+few k (R.EnumBodySizeMismatch a b) = omega arith
+few k (R.PrivateCompositeLayoutInvalid a b c) = omega arith
+few k (R.SharedLayoutCountMismatch a b c) = omega arith
 
 eight : (xs : List ℕ) → length xs ≤ 8 → length (xs ++ replicate (8 - length xs) 0) ≡ 8
 eight xs l = omega (arith, length-append xs (replicate (8 - length xs) 0), length-replicate {A = ℕ} (8 - length xs) 0)
@@ -66,18 +66,18 @@ pub first-few : (k : ℕ) (ws : List ℕ) → length ws ≡ 8 → length (take k
 first-few k ws l = omega (arith, length-take k ws)
 
 -- the words that count are the numbers
-module _ (r : Refusal) (n : Numbers) (e : n ≡ row-of (numbers r)) where
-  words-are : take (n .count) (n .words) ≡ numbers r
+module _ (k : ℕ) (r : Refusal) (n : Numbers) (e : n ≡ row-of (numbers k r)) where
+  words-are : take (n .count) (n .words) ≡ numbers k r
   unfolding row-of
-  words-are = ap (λ (z : Numbers). take (z .count) (z .words)) e ∙ take-append-seam (numbers r) _
+  words-are = ap (λ (z : Numbers). take (z .count) (z .words)) e ∙ take-append-seam (numbers k r) _
 
   pub words-eight : length (n .words) ≡ 8
   unfolding row-of
-  words-eight = ap (λ (z : Numbers). length (z .words)) e ∙ eight (numbers r) (few r)
+  words-eight = ap (λ (z : Numbers). length (z .words)) e ∙ eight (numbers k r) (few k r)
 
   pub count-few : n .count ≤ 8
   unfolding row-of
-  count-few = omega (arith, few r, ap (λ (z : Numbers). z .count) e)
+  count-few = omega (arith, few k r, ap (λ (z : Numbers). z .count) e)
 
 -- ── The text ──────────────────────────────────────────────────────────────────────────────
 
@@ -87,15 +87,15 @@ told s r = print-answer r (sizes-read (read s)) (r .answer)
 
 -- The check of a listing with two sheets, and the tables that it leaves.
 module _ (s : Bytes) (t heights blinds : List ℕ) (a : Answer) (e : checkedOf a heights blinds ≡ check s 4096 4096) where
-  pub refused-text : {why : Refusal} (n : Numbers) → a ≡ A.Refused why → n ≡ row-of (numbers why) →
+  pub refused-text : {k : ℕ} {why : Refusal} (n : Numbers) → a ≡ A.Refused k why → n ≡ row-of (numbers k why) →
       words (bytes "refused" ∷ map decimal (take (n .count) (n .words))) ≡ printed s
   unfolding printed print-answer answerOf
-  refused-text {why} n g r =
-      ap (λ (xs : List ℕ). words (bytes "refused" ∷ map decimal xs)) (words-are why n r)
+  refused-text {k} {why} n g r =
+      ap (λ (xs : List ℕ). words (bytes "refused" ∷ map decimal xs)) (words-are k why n r)
       ∙ ap (λ (z : Answer). told s (checkedOf z heights blinds)) (sym g)
       ∙ ap (told s) e
 
-  module _ {chunks instructions : ℕ} (g : a ≡ A.Accepted chunks instructions) (k : Tables-hold a s t) where
+  module _ {chunks instructions : ℕ} (g : a ≡ A.Accepted chunks instructions) (k : Tabled a s t) where
     is-accepted : answerOf a ≡ accepted chunks instructions
     unfolding answerOf
     is-accepted = ap answerOf g

@@ -13,8 +13,8 @@ fn check_text_into(listing: &[u8], t: &mut [u64; 22232], out: &mut [u8; ROOM]) -
     let a = typed_check::check_into(listing, t, &mut heights, &mut blinds);
     match a {
         Answer::Accepted(_, _) => printed::print_accepted(t, &heights, &blinds, out),
-        Answer::Refused(why) => {
-            let numbers = why.numbers();
+        Answer::Refused(k, why) => {
+            let numbers = why.numbers(k);
             let words = numbers.words;
             let count = numbers.count;
             printed::print_refused(&words[..count], out)

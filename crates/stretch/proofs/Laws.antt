@@ -24,10 +24,11 @@ use Rattle.bytecode.specs.declared.Instr.{Instr}
 use Rattle.frame.specs.declared.State.{State}
 use Rattle.frame.specs.Model.{stateOf, stackOf, valueAt}
 use Rattle.shapes.proofs.Lists.{down-length, lt-or-ge}
-use Rattle.apply.specs.declared.Ctx.{Ctx}
-use Rattle.apply.specs.declared.Verdict.{Verdict}
-use Rattle.apply.specs.declared.Verdict.the-variants.{Passed}
-use Rattle.apply.specs.Answers.{refusal, is-none, values-of, resultOf, Examined, Of}
+use Rattle.rules.specs.declared.Ctx.{Ctx}
+use Rattle.answer.specs.declared.Verdict.{Verdict}
+use Rattle.answer.specs.declared.Verdict.the-variants.{Passed}
+use Rattle.answer.specs.Answer.{refusal, is-none, fields}
+use Rattle.rules.specs.Answers.{values-of, resultOf, Examined, Of}
 use Rattle.stretch.specs.declared.Ran.{Ran}
 use Rattle.stretch.specs.Stretch.{straight, Straight, leads, sheetsOf, marked, Unfolds, Comes, Ran-is}
 use Rattle.stretch.proofs.Codes.{straight-leads, leads-here}

@@ -11,8 +11,9 @@ use Rattle.definition.specs.Walk.{State as AnyState, Sheets, Breaks as AnyBreak
 use Rattle.bytecode.specs.Meaning.{chunkOf, opAt, instrAt}
 use Rattle.frame.specs.declared.State.{State}
 use Rattle.frame.specs.Model.{stateOf}
-use Rattle.apply.specs.declared.Ctx.{Ctx}
-use Rattle.apply.specs.Answers.{refusal, is-none, values-of}
+use Rattle.rules.specs.declared.Ctx.{Ctx}
+use Rattle.answer.specs.Answer.{refusal, is-none, fields}
+use Rattle.rules.specs.Answers.{values-of}
 use Rattle.stretch.specs.declared.Ran.{Ran}
 
 -- the number of a code that leads onward and opens nothing

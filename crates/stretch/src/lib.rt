@@ -1,11 +1,12 @@
 // The step of the walk over instructions that lead straight onward: the state and both sheets are lent, and changed in place by one instruction after the other.
-use apply::Ctx;
-use apply::Verdict;
+use answer::Verdict;
+use bytecode::code;
+use rules::Ctx;
 ghost use mathlib.Core.Path.{_≡_};
 ghost use mathlib.Core.Bool.{Bool};
 ghost use Prim.Native.Nat.{ℕ, _+_, _≤_, _<_};
 ghost use lib.ListN.{length};
-ghost use Rattle.apply.specs.Answers.{Of};
+ghost use Rattle.rules.specs.Answers.{Of};
 ghost use Rattle.frame.specs.Model.{at, Long};
 ghost use Rattle.stretch.specs.Stretch.{straight, sheetsOf, marked, Ran-is};
 ghost use Rattle.stretch.specs.Lent.{Left};
@@ -14,13 +15,13 @@ ghost use Rattle.stretch.specs.Lent.{Left};
 pub fn is_straight(code: u8) -> bool
     ensures { λ r. ⌜ r ≡ straight code ⌝ }
 {
-    if code < 64 {
+    if code < code::TRAP {
         return true;
     }
-    if code == 72 {
+    if code == code::STREAM {
         return true;
     }
-    code == 73
+    code == code::RESET
 }
 
 // The marks of an instruction before which there are h operands. A mark in the blind sheet is never cleared.

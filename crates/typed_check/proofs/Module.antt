@@ -23,25 +23,17 @@ use Rattle.listing.specs.Answer.{Stands-in}
 use Rattle.sheets.specs.Totals.{chunk-within}
 use Rattle.nesting.specs.Chunks.{fine}
 use Rattle.answer.specs.declared.Refusal.{Refusal}
-use Rattle.answer.specs.Answer.{numbers}
+use Rattle.answer.specs.Answer.{numbers, found, fields, with-chunk, refusal}
+use Rattle.answer.specs.declared.Verdict.the-variants as case
+use Rattle.answer.specs.declared.Finding.{Finding}
+use Rattle.answer.specs.declared.Finding.the-variants.{Nothing, Refused}
+use Rattle.rules.specs.Answers.{values-of}
 use Rattle.walk.specs.declared.Walk.{Walk}
 use Rattle.walk.specs.declared.Walk.the-variants as W
 use Rattle.blocks.specs.Outcomes.{numbers as walk-numbers}
-use Rattle.walk.specs.Ready.{Roomy, with-chunk, resultsOf}
+use Rattle.walk.specs.Ready.{Roomy, resultsOf}
 use Rattle.stretch.specs.Stretch.{sheetsOf}
-use Rattle.typed_check.specs.declared.Finding.{Finding}
-use Rattle.typed_check.specs.declared.Finding.the-variants.{Nothing, Refused}
-use Rattle.typed_check.specs.Equal.{found, if-any, refused-by, tests-of}
-
--- ── Tests in order ────────────────────────────────────────────────────────────────────────
-
-pub stops : (f : Finding) {x : Refusal} (a b : Option (List ℕ)) → f ≡ Refused x → found f ≡ a → found f ≡ first a b
-unfolding first found
-stops f {x} a b e g = let z : a ≡ some (numbers x) = sym g ∙ ap found e in g ∙ rw z
-
-pub goes : (f : Finding) (a b : Option (List ℕ)) {o : Option (List ℕ)} → f ≡ Nothing → found f ≡ a → o ≡ b → o ≡ first a b
-unfolding first found
-goes f a b e g h = let z : a ≡ none = sym g ∙ ap found e in h ∙ rw z
+use Rattle.typed_check.specs.Equal.{refused-in, refused-by, tests-of}
 
 -- ── The tests before the walk ─────────────────────────────────────────────────────────────
 
@@ -86,15 +78,11 @@ walk-numbered k [] sh N = tt
 walk-numbered k (c ∷ cs) sh (both N Ns) =
     numbered-on k (length (c .code)) (walk-chunk c sh) _ (walk-known c N sh) (λ w. walk-numbered (suc k) cs (w .sheets) Ns)
 
-listed : (l : List ℕ) (sh : Sheets) (x : Result Sheets) → refused l ≡ x → Numbered x → pass (if-any l) sh ≡ x
-unfolding if-any pass
-listed [] sh x e n = absurd (subst Numbered (sym e) n)
-listed (n ∷ fields) sh x e u = e
-
 passed : (w : Walk) (sh : Sheets) (x : Result Sheets) → resultsOf w sh ≡ x → Numbered x → pass (refused-by w) sh ≡ x
-unfolding resultsOf refused-by pass
+unfolding resultsOf refused-by refused-in pass numbers walk-numbers values-of refusal with-chunk
 passed W.Accepted sh x e n = e
-passed (W.Refused k r) sh x e n = listed (with-chunk k (walk-numbers r)) sh x e n
+passed (W.Refused k case.Passed) sh x e n = absurd (subst Numbered (sym e) n)
+passed (W.Refused k (case.Refused r)) sh x e n = e
 
 -- sheets of zeros
 pub zeros-by : (t heights blinds : List ℕ) → heights ≡ replicate (length heights) 0 → blinds ≡ replicate (length blinds) 0 →
@@ -121,11 +109,11 @@ module _ (t : List ℕ) (h b : ℕ) (stands : Stands-in t) where
   whole = ap (λ (cs : List Chunk). run S (layout-test m) cs (zeros h b)) (sym (stands .chunks))
 
   -- what a test finds is the answer
-  pub tested-bad : (f : Finding) {x : Refusal} (sh : Sheets) → f ≡ Refused x → found f ≡ tests-of h b t → pass (found f) sh ≡ check-module h b (moduleOf t)
+  pub tested-bad : (f : Finding) {k : ℕ} {x : Refusal} (sh : Sheets) → f ≡ Refused k x → found f ≡ tests-of h b t → pass (found f) sh ≡ check-module h b (moduleOf t)
   unfolding tests-of found pass m S N
-  tested-bad f {x} sh e g =
-      let z : first S (first N (layout-test m)) ≡ some (numbers x) = sym g ∙ ap found e in
-      ap (λ (o : Finding). pass (found o) sh) e ∙ sym (whole ∙ run-bad S (layout-test m) (chunksOf t) (zeros h b) (numbers x) z)
+  tested-bad f {k} {x} sh e g =
+      let z : first S (first N (layout-test m)) ≡ some (numbers k x) = sym g ∙ ap found e in
+      ap (λ (o : Finding). pass (found o) sh) e ∙ sym (whole ∙ run-bad S (layout-test m) (chunksOf t) (zeros h b) (numbers k x) z)
 
   module _ (f : Finding) (e : f ≡ Nothing) (g : found f ≡ tests-of h b t) where
     none-found : first S (first N (layout-test m)) ≡ none

@@ -22,10 +22,10 @@ use Rattle.answer.specs.declared.Refusal.{Refusal as Why}
 use Rattle.answer.specs.declared.Refusal.the-variants as W
 use Rattle.answer.specs.declared.Answer.{Answer}
 use Rattle.answer.specs.declared.Answer.the-variants as A
-use Rattle.answer.specs.Answer.{numbers, answerOf}
-use Rattle.typed_check.specs.declared.Finding.{Finding}
-use Rattle.typed_check.specs.declared.Finding.the-variants.{Nothing, Refused}
-use Rattle.typed_check.specs.Equal.{checkedOf, Sound, Holds, found}
+use Rattle.answer.specs.Answer.{numbers, fields, with-chunk, found, answerOf}
+use Rattle.answer.specs.declared.Finding.{Finding}
+use Rattle.answer.specs.declared.Finding.the-variants.{Nothing, Refused}
+use Rattle.typed_check.specs.Equal.{checkedOf, Sound, Tabled}
 
 -- ── Before the module's check ─────────────────────────────────────────────────────────────
 
@@ -48,42 +48,50 @@ checked h b m = check-module h b m >>= with-sheets m
 
 -- ── Refusals ──────────────────────────────────────────────────────────────────────────────
 
-pub refused-is : (r : Why) (h b : ℕ) (heights blinds : List ℕ) → heights ≡ replicate h 0 → blinds ≡ replicate b 0 →
-    checkedOf (A.Refused r) heights blinds ≡ conclude h b (refused (numbers r))
+pub refused-is : (k : ℕ) (r : Why) (h b : ℕ) (heights blinds : List ℕ) → heights ≡ replicate h 0 → blinds ≡ replicate b 0 →
+    checkedOf (A.Refused k r) heights blinds ≡ conclude h b (refused (numbers k r))
 unfolding answerOf conclude
-refused-is r h b heights blinds p q = rw (p, q)
+refused-is k r h b heights blinds p q = rw (p, q)
 
 not-accepted : {r : List ℕ} {n k : ℕ} → refusal r ≡ accepted n k → ⊥
 not-accepted e = let z : _≡_ {A = ℕ} 0 1 = cc in omega arith
 
--- both promises of the check with lent tables
+-- Demand 3 follows from the answer and both sheets.
+sound : (s : Bytes) (h b : ℕ) (a : Answer) (heights blinds : List ℕ) → checkedOf a heights blinds ≡ check s h b → Sound (answerOf a) s heights blinds
+sound s h b a heights blinds e n k q =
+    demand-3-of s h b n k heights blinds (sym e ∙ ap (λ (z : AnyAnswer). record { answer = z; heights = heights; blinds = blinds }) q)
+
+-- the promises of the check with lent tables
 abbrev pub Promised : Bytes → List ℕ → ℕ → ℕ → Answer → List ℕ → List ℕ → Type 0
-Promised s t h b a heights blinds = (checkedOf a heights blinds ≡ check s h b) × Holds a s t
+Promised s t h b a heights blinds = (checkedOf a heights blinds ≡ check s h b) × (Sound (answerOf a) s heights blinds × Tabled a s t)
+
+promised : (s : Bytes) (t : List ℕ) (h b : ℕ) (a : Answer) (heights blinds : List ℕ) → checkedOf a heights blinds ≡ check s h b → Tabled a s t
+    → Promised s t h b a heights blinds
+promised s t h b a heights blinds e l = (e, (sound s h b a heights blinds e, l))
 
 module _ (s : Bytes) (t : List ℕ) (h b : ℕ) (a : Answer) (heights blinds : List ℕ) where
-  abbrev Concludes : Why → Type 0
-  Concludes why = checkedOf a heights blinds ≡ conclude h b (refused (numbers why))
+  abbrev Concludes : ℕ → Why → Type 0
+  Concludes k why = checkedOf a heights blinds ≡ conclude h b (refused (numbers k why))
 
-  refused-all : (why : Why) → read s >>= checked h b ≡ refused (numbers why) → Concludes why → Promised s t h b a heights blinds
+  refused-all : (k : ℕ) (why : Why) → read s >>= checked h b ≡ refused (numbers k why) → Concludes k why → Promised s t h b a heights blinds
   unfolding check conclude
-  refused-all why e c = (
-    c ∙ ap (conclude h b) (sym e),
-    λ n k q. absurd (not-accepted (ap (λ (z : Checked). z .answer) (sym c) ∙ q)),
-  )
+  refused-all k why e c =
+      promised s t h b a heights blinds (c ∙ ap (conclude h b) (sym e))
+      (λ n m q. absurd (not-accepted (ap (λ (z : Checked). z .answer) (sym c) ∙ q)))
 
-  unread : (why : Why) → read s ≡ refused (numbers why) → Concludes why → Promised s t h b a heights blinds
+  unread : (k : ℕ) (why : Why) → read s ≡ refused (numbers k why) → Concludes k why → Promised s t h b a heights blinds
   unfolding _>>=_
-  unread why e c = refused-all why (ap (λ (z : Result Module). z >>= checked h b) e) c
+  unread k why e c = refused-all k why (ap (λ (z : Result Module). z >>= checked h b) e) c
 
   -- refused in reading
   module _ (r : Reading) (e : read s ≡ result-of r t) where
-    pub line-read : {n : ℕ} → r ≡ R.Line n → Concludes (W.CannotFollow n) → Promised s t h b a heights blinds
-    unfolding result-of numbers
-    line-read {n} g c = unread (W.CannotFollow n) (e ∙ ap (λ (z : Reading). result-of z t) g) c
+    pub line-read : {n : ℕ} → r ≡ R.Line n → Concludes 0 (W.CannotFollow n) → Promised s t h b a heights blinds
+    unfolding result-of numbers fields with-chunk
+    line-read {n} g c = unread 0 (W.CannotFollow n) (e ∙ ap (λ (z : Reading). result-of z t) g) c
 
-    pub limit-read : {n : ℕ} → r ≡ R.Limit n → Concludes (W.LimitPassed 0 0 n) → Promised s t h b a heights blinds
-    unfolding result-of numbers
-    limit-read {n} g c = unread (W.LimitPassed 0 0 n) (e ∙ ap (λ (z : Reading). result-of z t) g) c
+    pub limit-read : {n : ℕ} → r ≡ R.Limit n → Concludes 0 (W.LimitPassed 0 n) → Promised s t h b a heights blinds
+    unfolding result-of numbers fields with-chunk
+    limit-read {n} g c = unread 0 (W.LimitPassed 0 n) (e ∙ ap (λ (z : Reading). result-of z t) g) c
 
 -- A module that was read, over sheets of these lengths.
 module _ (s : Bytes) (t : List ℕ) (r : Reading) (e : read s ≡ result-of r t) (g : r ≡ R.Module) (l : Left-in r t) (h b h₀ b₀ : ℕ) (p : h₀ ≡ h) (q : b₀ ≡ b) where
@@ -100,26 +108,20 @@ module _ (s : Bytes) (t : List ℕ) (r : Reading) (e : read s ≡ result-of r t)
     going y = ap (λ (z : Result Module). z >>= checked h b) module-read ∙ ap (λ (z : Result Sheets). z >>= with-sheets (moduleOf t)) y
 
     -- refused by a test or in the walk
-    pub unfit : {why : Why} (a : Answer) (heights blinds : List ℕ) (h₁ b₁ : ℕ) → h₁ ≡ h → b₁ ≡ b → f ≡ Refused why →
-        checkedOf a heights blinds ≡ conclude h₁ b₁ (refused (numbers why)) → Promised s t h b a heights blinds
+    pub unfit : {k : ℕ} {why : Why} (a : Answer) (heights blinds : List ℕ) (h₁ b₁ : ℕ) → h₁ ≡ h → b₁ ≡ b → f ≡ Refused k why →
+        checkedOf a heights blinds ≡ conclude h₁ b₁ (refused (numbers k why)) → Promised s t h b a heights blinds
     unfolding _>>=_ found pass
-    unfit {why} a heights blinds h₁ b₁ u v k c =
-        refused-all s t h b a heights blinds why (going (sym by-lengths ∙ ap (λ (o : Finding). pass (found o) sh) k))
-        (c ∙ ap (λ (n : ℕ). conclude n b₁ (refused (numbers why))) u ∙ ap (λ (n : ℕ). conclude h n (refused (numbers why))) v)
+    unfit {k} {why} a heights blinds h₁ b₁ u v x c =
+        refused-all s t h b a heights blinds k why (going (sym by-lengths ∙ ap (λ (o : Finding). pass (found o) sh) x))
+        (c ∙ ap (λ (n : ℕ). conclude n b₁ (refused (numbers k why))) u ∙ ap (λ (n : ℕ). conclude h n (refused (numbers k why))) v)
 
     pub fit : (chunks instructions : ℕ) → f ≡ Nothing → chunks ≡ count t 7 → instructions ≡ count t 9 →
         Promised s t h b (A.Accepted chunks instructions) (sh .heights) (sh .blinds)
     unfolding check conclude answerOf found pass _>>=_
     fit chunks instructions k u v =
-        let st : Stands-in t = stands-by t g l in (
-          ap (λ (n : ℕ). checkedOf (A.Accepted n instructions) (sh .heights) (sh .blinds)) (u ∙ st .chunk-number)
-              ∙ ap (λ (n : ℕ). checkedOf (A.Accepted (length (moduleOf t .chunks)) n) (sh .heights) (sh .blinds)) (v ∙ st .op-number)
-              ∙ ap (conclude h b) (sym (going (sym by-lengths ∙ ap (λ (o : Finding). pass (found o) sh) k))),
-          λ n m z. (module-read, st),
-        )
-
--- ── Demand 3 ──────────────────────────────────────────────────────────────────────────────
-
-pub sound : (s : Bytes) (h b : ℕ) (a : Answer) (heights blinds : List ℕ) → checkedOf a heights blinds ≡ check s h b → Sound a s heights blinds
-sound s h b a heights blinds e n k q =
-    demand-3-of s h b n k heights blinds (sym e ∙ ap (λ (z : AnyAnswer). record { answer = z; heights = heights; blinds = blinds }) q)
+        let st : Stands-in t = stands-by t g l in
+        promised s t h b (A.Accepted chunks instructions) (sh .heights) (sh .blinds)
+        (ap (λ (n : ℕ). checkedOf (A.Accepted n instructions) (sh .heights) (sh .blinds)) (u ∙ st .chunk-number)
+        ∙ ap (λ (n : ℕ). checkedOf (A.Accepted (length (moduleOf t .chunks)) n) (sh .heights) (sh .blinds)) (v ∙ st .op-number)
+        ∙ ap (conclude h b) (sym (going (sym by-lengths ∙ ap (λ (o : Finding). pass (found o) sh) k))))
+        (λ n m z. (module-read, st))

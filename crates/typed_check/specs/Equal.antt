@@ -8,7 +8,7 @@ use Rattle.definition.specs.Basics.{ok, first}
 use Rattle.definition.specs.Read.{read}
 use Rattle.definition.specs.Module.{all-ops}
 use Rattle.definition.specs.Layout.{layout-test}
-use Rattle.definition.specs.Check.{Checked, accepted, sheets-test, nesting-test}
+use Rattle.definition.specs.Check.{Answer as AnyAnswer, Checked, accepted, sheets-test, nesting-test}
 use Rattle.bytecode.specs.Meaning.{moduleOf, chunksOf}
 use Rattle.definition.specs.Demand.{Demand3}
 use Rattle.definition.specs.Format.{Bytes}
@@ -17,37 +17,30 @@ use Rattle.answer.specs.Answer.{numbers, answerOf}
 use Rattle.listing.specs.Answer.{Stands-in}
 use Rattle.walk.specs.declared.Walk.{Walk}
 use Rattle.walk.specs.declared.Walk.the-variants as W
-use Rattle.blocks.specs.Outcomes.{numbers as walk-numbers}
-use Rattle.walk.specs.Ready.{with-chunk}
-use Rattle.typed_check.specs.declared.Finding.{Finding}
-use Rattle.typed_check.specs.declared.Finding.the-variants.{Nothing, Refused}
+use Rattle.answer.specs.declared.Verdict.{Verdict}
+use Rattle.answer.specs.declared.Verdict.the-variants as case
 
 -- an answer, and what both sheets hold
 abbrev pub checkedOf : Answer → List ℕ → List ℕ → Checked
 checkedOf a heights blinds = record { answer = answerOf a; heights = heights; blinds = blinds }
 
 -- Where the listing is accepted, demand 3 holds of it and of both sheets.
-abbrev pub Sound : Answer → Bytes → List ℕ → List ℕ → Type 0
-Sound a listing heights blinds = (chunks instructions : ℕ) → answerOf a ≡ accepted chunks instructions → Demand3 listing heights blinds
+abbrev pub Sound : AnyAnswer → Bytes → List ℕ → List ℕ → Type 0
+Sound a listing heights blinds = (chunks instructions : ℕ) → a ≡ accepted chunks instructions → Demand3 listing heights blinds
 
 -- Where the listing is accepted, the tables hold its module.
-abbrev pub Holds : Answer → Bytes → List ℕ → Type 0
-Holds a listing tables = (chunks instructions : ℕ) → answerOf a ≡ accepted chunks instructions → (read listing ≡ ok (moduleOf tables)) × Stands-in tables
+abbrev pub Tabled : Answer → Bytes → List ℕ → Type 0
+Tabled a listing tables = (chunks instructions : ℕ) → answerOf a ≡ accepted chunks instructions → (read listing ≡ ok (moduleOf tables)) × Stands-in tables
 
--- the numbers of what a test found
-unfoldable pub found : Finding → Option (List ℕ)
-found Nothing = none
-found (Refused r) = some (numbers r)
-
--- a refusal that has numbers
-unfoldable pub if-any : List ℕ → Option (List ℕ)
-if-any [] = none
-if-any (n ∷ fields) = some (n ∷ fields)
+-- the numbers of a refusal in chunk k
+unfoldable pub refused-in : ℕ → Verdict → Option (List ℕ)
+refused-in k case.Passed = none
+refused-in k (case.Refused r) = some (numbers k r)
 
 -- the numbers of a walk's refusal, with its chunk
 unfoldable pub refused-by : Walk → Option (List ℕ)
 refused-by W.Accepted = none
-refused-by (W.Refused k r) = if-any (with-chunk k (walk-numbers r))
+refused-by (W.Refused k v) = refused-in k v
 
 -- the tests of a module in the tables, before it is walked
 unfoldable pub tests-of : ℕ → ℕ → List ℕ → Option (List ℕ)

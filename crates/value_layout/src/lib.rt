@@ -4,6 +4,9 @@ ghost use Prim.Native.Nat.{_≤_, _/_, _^_};
 ghost use lib.Dec.{leb};
 ghost use Rattle.value_layout.specs.Sizes.{widthOf};
 
+pub mod composite;
+pub mod scalar;
+
 // Bytes of a word, of a float and of an address.
 pub struct Widths {
     pub word: u8,
@@ -24,14 +27,14 @@ impl Widths {
         ensures { λ r. ⌜ r ≡ widthOf self kind ⌝ }
     {
         match kind {
-            0 => 0,
-            1 => 1,
-            2 => 1,
-            3 => wide(self.word),
-            4 => wide(self.word),
-            5 => wide(self.float),
-            6 => 2 * wide(self.word),
-            7 => wide(self.address),
+            scalar::UNIT => 0,
+            scalar::BOOL => 1,
+            scalar::BYTE => 1,
+            scalar::INT => wide(self.word),
+            scalar::FIXED => wide(self.word),
+            scalar::FLOAT => wide(self.float),
+            scalar::TEXT => 2 * wide(self.word),
+            scalar::OPAQUE => wide(self.address),
             _ => 0,
         }
     }
@@ -41,14 +44,14 @@ impl Widths {
 pub fn is_scalar_tag(tag: u8) -> bool
     ensures { λ r. ⌜ r ≡ leb tag 7 ⌝ }
 {
-    tag <= 7
+    tag <= scalar::OPAQUE
 }
 
 // Whether a tag is that of a composite kind.
 pub fn is_composite_tag(tag: u8) -> bool
     ensures { λ r. ⌜ r ≡ leb tag 3 ⌝ }
 {
-    tag <= 3
+    tag <= composite::ENUM
 }
 
 // Bytes of an address, from the base-two logarithm of its bits.

@@ -24,7 +24,7 @@ use Rattle.frame.specs.declared.State.{State}
 use Rattle.frame.specs.Model.{stateOf, stackOf, localsOf}
 use Rattle.bytecode.specs.Meaning.{chunkOf, first-op, op-count, localsAt, instrAt, code-length, chunk-locals}
 use Rattle.blocks.specs.Outcomes.{numbers, pendingOf, breaksOf, flowOf, walkedOf, onwardOf, restOf, leavingOf, leftOf, fallOf, meets, after-last, after-loop, loopOf, Open}
-use Rattle.apply.specs.Answers.{is-none, refusal}
+use Rattle.answer.specs.Answer.{is-none, refusal, fields}
 use Rattle.blocks.specs.Visits.{Placed, chunkIn, instrIn, Examined, markIn, visitIn}
 use Rattle.stretch.specs.Stretch.{leads}
 use Rattle.walk.specs.Ready.{Ready, armsIn, forgotten, lastIn}
@@ -32,8 +32,7 @@ use Rattle.stretch.specs.Stretch.{sheetsOf, straight, Straight, Unfolds, Ran-is
 use Rattle.stretch.specs.declared.Ran.{Ran}
 use Rattle.bytecode.specs.Parts.{Instr-is}
 use Rattle.bytecode.specs.declared.Instr.{Instr}
-use Rattle.blocks.specs.declared.Refusal.{Refusal}
-use Rattle.blocks.specs.declared.Refusal.the-variants.{Instruction}
+use Rattle.answer.specs.declared.Verdict.{Verdict}
 use Rattle.blocks.specs.declared.Flow.{Flow}
 use Rattle.blocks.specs.declared.Flow.the-variants.{Refused, Ended, Falls}
 use Rattle.blocks.specs.declared.Leaving.{Leaving}
@@ -43,7 +42,7 @@ use Rattle.blocks.specs.Outcomes.{BreaksIn}
 use Rattle.blocks.specs.Outcomes.{OutcomeIn}
 use Rattle.blocks.specs.Outcomes.{OnwardIn}
 use Rattle.blocks.specs.Outcomes.{LeftIn}
-use Rattle.apply.specs.declared.Ctx.{Ctx}
+use Rattle.rules.specs.declared.Ctx.{Ctx}
 use Rattle.stretch.proofs.Codes.{instr-here, no-instr, straight-leads}
 use Rattle.blocks.proofs.Laws.{height-is}
 use Rattle.stretch.proofs.Laws.{instr-refused, instr-onward, instr-resets, refused-is}
@@ -111,7 +110,7 @@ module _ (t h₀ b₀ : List ℕ) (x : Ctx) (start end floor : ℕ) (s₀ : Stat
           ap (flowOf (x .locals) (r .out) (sheetsOf h′ b′)) e
           ∙ ap (onwardOf (chunkIn t x) (x .locals) (r .next) end floor (r .out) (sheetsOf h′ b′)) (sym e) ∙ whole
 
-      pub walking-stopped : {q : Refusal} → r .out .flow ≡ Refused q →
+      pub walking-stopped : {q : Verdict} → r .out .flow ≡ Refused q →
           walkedOf (x .locals) (r .out) (sheetsOf h′ b′) ≡ full (chunkIn t x) start end floor (stateOf (x .locals) s₀) (breaksOf (x .locals) k₀) (sheetsOf h₀ b₀)
       unfolding flowOf onwardOf
       walking-stopped e =
@@ -188,7 +187,7 @@ module _ (t h₀ b₀ : List ℕ) (x : Ctx) (start end floor : ℕ) (s₀ : Stat
         on = W .on ∙ R .passed p (full (chunkIn t x)) unfolds (breaksOf (x .locals) k);
       }
 
-  pub walking-refused : is-none (refusal (r .verdict)) ≡ false → (o : OutcomeIn) (sh′ : Sheets) → o .flow ≡ Refused (Instruction (r .verdict)) →
+  pub walking-refused : is-none (refusal (r .verdict)) ≡ false → (o : OutcomeIn) (sh′ : Sheets) → o .flow ≡ Refused (r .verdict) →
       walkedOf (x .locals) o sh′ ≡ full (chunkIn t x) start end floor (stateOf (x .locals) s₀) (breaksOf (x .locals) k₀) (sheetsOf h₀ b₀)
   unfolding flowOf numbers
   walking-refused e o sh′ f = ap (flowOf (x .locals) o sh′) f ∙ sym (W .on ∙ R .refused-there e (full (chunkIn t x)) unfolds (breaksOf (x .locals) k))
@@ -207,7 +206,7 @@ open-walked locals o sh h = go (o .flow) refl h
     go Falls e x = ap (flowOf locals o sh) e ∙ ap (λ (f : Flow). ok (record { fall = fallOf locals (o .state) f; breaks = breaksOf locals (o .breaks); sheets = sh })) (sym e)
 
 -- the state of a stretch that was refused says nothing
-pub refused-same : (locals : ℕ) (o d : OutcomeIn) (sh : Sheets) {q : Refusal} → o .flow ≡ Refused q → d .flow ≡ Refused q → walkedOf locals o sh ≡ walkedOf locals d sh
+pub refused-same : (locals : ℕ) (o d : OutcomeIn) (sh : Sheets) {q : Verdict} → o .flow ≡ Refused q → d .flow ≡ Refused q → walkedOf locals o sh ≡ walkedOf locals d sh
 unfolding flowOf
 refused-same locals o d sh e f = ap (flowOf locals o sh) e ∙ sym (ap (flowOf locals d sh) f)
 
@@ -246,7 +245,7 @@ module _ (t : List ℕ) (x : Ctx) (target ip end floor : ℕ) (s : State) (b : B
   abbrev B : AnyBreaks
   B = breaksOf (x .locals) b
 
-  refused-at-first : (n : ℕ) {q : Refusal} → a .flow ≡ Refused q → onwardOf C (x .locals) n end floor a sh₁ (a .flow) ≡ walkedOf (x .locals) a sh₁
+  refused-at-first : (n : ℕ) {q : Verdict} → a .flow ≡ Refused q → onwardOf C (x .locals) n end floor a sh₁ (a .flow) ≡ walkedOf (x .locals) a sh₁
   unfolding onwardOf flowOf
   refused-at-first n e =
       ap (onwardOf C (x .locals) n end floor a sh₁) e ∙ ap (flowOf (x .locals) a sh₁) (sym e)
@@ -259,7 +258,7 @@ module _ (t : List ℕ) (x : Ctx) (target ip end floor : ℕ) (s : State) (b : B
     first-arm : full C (suc ip) target floor S B sh ≡ walkedOf (x .locals) a sh₁
     first-arm = ap (λ (n : ℕ). full C n target floor S B sh) (let z : suc ip ≡ ip + 1 = omega arith in z) ∙ sym A
 
-    pub one-refused : (n : ℕ) {q : Refusal} → a .flow ≡ Refused q → onwardOf C (x .locals) n end floor a sh₁ (a .flow) ≡ armsIn t x target ip end floor s b sh
+    pub one-refused : (n : ℕ) {q : Verdict} → a .flow ≡ Refused q → onwardOf C (x .locals) n end floor a sh₁ (a .flow) ≡ armsIn t x target ip end floor s b sh
     unfolding walk-arms flowOf _>>=_
     one-refused n e =
         refused-at-first n e ∙ ap (flowOf (x .locals) a sh₁) e
@@ -293,7 +292,7 @@ module _ (t : List ℕ) (x : Ctx) (target ip end floor : ℕ) (s : State) (b : B
         join-ends ip (r .fall) (q .fall) >>= λ (j : Option AnyState).
         go-on (full C) e end floor (q .breaks) (q .sheets) j
 
-    pub then-refused : (n : ℕ) {q : Refusal} → a .flow ≡ Refused q → onwardOf C (x .locals) n end floor a sh₁ (a .flow) ≡ armsIn t x target ip end floor s b sh
+    pub then-refused : (n : ℕ) {q : Verdict} → a .flow ≡ Refused q → onwardOf C (x .locals) n end floor a sh₁ (a .flow) ≡ armsIn t x target ip end floor s b sh
     unfolding walk-arms flowOf _>>=_
     then-refused n f =
         refused-at-first n f ∙ ap (flowOf (x .locals) a sh₁) f ∙ sym (ap rest (then-arm-is ∙ ap (flowOf (x .locals) a sh₁) f)) ∙ two-arms
@@ -310,7 +309,7 @@ module _ (t : List ℕ) (x : Ctx) (target ip end floor : ℕ) (s : State) (b : B
       unfolding _>>=_
       after-then = ap rest (then-arm-is ∙ open-walked (x .locals) a sh₁ o)
 
-      pub else-refused : (n : ℕ) {q : Refusal} → d .flow ≡ Refused q → onwardOf C (x .locals) n end floor d sh₂ (d .flow) ≡ armsIn t x target ip end floor s b sh
+      pub else-refused : (n : ℕ) {q : Verdict} → d .flow ≡ Refused q → onwardOf C (x .locals) n end floor d sh₂ (d .flow) ≡ armsIn t x target ip end floor s b sh
       unfolding walk-arms flowOf onwardOf _>>=_
       else-refused n f =
           ap (onwardOf C (x .locals) n end floor d sh₂) f
@@ -392,7 +391,7 @@ module _ (t : List ℕ) (x : Ctx) (ip exit : ℕ) (s₀ : State) where
         P .on ∙ one-pass left H (sheetsOf h b)
         ∙ ap (λ (m : Result Walked). m >>= λ (r : Walked). pass-end ip H r (again left H) (r .fall)) (body-is ∙ ap (flowOf (x .locals) o (sheetsOf h′ b′)) e)
 
-    pub pass-refused : {q : Refusal} → o .flow ≡ Refused q → refused (numbers q) ≡ loopOf (chunkIn t x) ip exit (stateOf (x .locals) s₀) (sheetsOf h₀ b₀)
+    pub pass-refused : {q : Verdict} → o .flow ≡ Refused q → refused (numbers q) ≡ loopOf (chunkIn t x) ip exit (stateOf (x .locals) s₀) (sheetsOf h₀ b₀)
     unfolding flowOf _>>=_
     pass-refused e = sym (came e)
 

@@ -19,13 +19,14 @@ use Rattle.frame.specs.declared.State.{State}
 use Rattle.frame.specs.Model.{stateOf, stackOf, localsOf, withLocal}
 use Rattle.bytecode.specs.Lists.{tabulate}
 use Rattle.bytecode.specs.Meaning.{chunkOf, chunksOf, count, sigsOf, localsAt, locals-low, first-op, op-count, code-length, chunk-sig, chunk-locals}
-use Rattle.apply.specs.declared.Ctx.{Ctx}
-use Rattle.apply.specs.Answers.{Of}
+use Rattle.rules.specs.declared.Ctx.{Ctx}
+use Rattle.rules.specs.Answers.{Of}
 use Rattle.blocks.specs.Outcomes.{numbers, pendingOf, breaksOf, flowOf, walkedOf, Open}
 use Rattle.blocks.specs.Visits.{Placed, chunkIn}
-use Rattle.walk.specs.Ready.{Ready, Roomy, with-chunk, resultsOf}
+use Rattle.walk.specs.Ready.{Ready, Roomy, resultsOf}
+use Rattle.answer.specs.Answer.{with-chunk}
 use Rattle.stretch.specs.Stretch.{sheetsOf}
-use Rattle.blocks.specs.declared.Refusal.{Refusal}
+use Rattle.answer.specs.declared.Verdict.{Verdict}
 use Rattle.blocks.specs.declared.Flow.{Flow}
 use Rattle.blocks.specs.declared.Flow.the-variants.{Refused, Ended, Falls}
 use Rattle.blocks.specs.declared.Pending.the-variants.{Nothing}
@@ -114,7 +115,7 @@ module _ (t h₀ b₀ h b : List ℕ) (k : ℕ) (W : Walked-to t h₀ b₀ h b k
       ∙ ap (λ (m : Result Walked). in-chunk k m >>= λ (w : Walked). walk-all (suc k) (tabulate (suc k) (count t 7 - (k + 1)) (chunkOf t)) (w .sheets))
       (sym C ∙ ap (flowOf (localsAt t k) o (sheetsOf h′ b′)) e)
 
-  pub walked-refused : {r : Refusal} → o .flow ≡ Refused r → refused (with-chunk k (numbers r)) ≡ walk-all 0 (chunksOf t) (sheetsOf h₀ b₀)
+  pub walked-refused : {r : Verdict} → o .flow ≡ Refused r → refused (with-chunk k (numbers r)) ≡ walk-all 0 (chunksOf t) (sheetsOf h₀ b₀)
   unfolding flowOf in-chunk with-chunk _>>=_
   walked-refused {r} e = sym (next-chunk e ∙ go (numbers r))
     where

@@ -10,7 +10,8 @@ use Rattle.theorems.specs.Nested.{Arm, Nested}
 use Rattle.bytecode.specs.Meaning.{chunkOf, first-op, op-count}
 use Rattle.frame.specs.declared.State.{State}
 use Rattle.frame.specs.Model.{stateOf, localsOf}
-use Rattle.apply.specs.declared.Ctx.{Ctx}
+use Rattle.rules.specs.declared.Ctx.{Ctx}
+use Rattle.answer.specs.Answer.{with-chunk}
 use Rattle.blocks.specs.declared.Onward.{Onward}
 use Rattle.blocks.specs.Outcomes.{BreaksIn, numbers, breaksOf, Low, after-last}
 use Rattle.blocks.specs.Visits.{Placed, chunkIn}
@@ -52,11 +53,6 @@ pub record Roomy (t heights blinds : List ℕ) (k : ℕ) : Type 0 where
   pub heights-long : first-op t k + op-count t k ≤ length heights
   pub blinds-long : first-op t k + op-count t k ≤ length blinds
   pub nested : Nested (chunkOf t k)
-
--- 01's number, the chunk's, then the values
-unfoldable pub with-chunk : ℕ → List ℕ → List ℕ
-with-chunk k [] = []
-with-chunk k (n ∷ fields) = n ∷ k ∷ fields
 
 -- the walk of all chunks, with the sheets that it leaves
 unfoldable pub resultsOf : Walk → Sheets → Result Sheets

@@ -1,6 +1,6 @@
 // The walk of chunks over the tables: the stretch walker and the loop walker, which call each other. The state is in arrays that the caller lends, and so are the breaks of the
 // loop around; a walker of arms or of a loop keeps what it needs again in arrays of its own.
-use apply::Ctx;
+use answer::Verdict;
 use blocks::Breaks;
 use blocks::Flow;
 use blocks::Layout;
@@ -9,7 +9,8 @@ use blocks::Left;
 use blocks::Onward;
 use blocks::Outcome;
 use blocks::Pending;
-use blocks::Refusal;
+use bytecode::code;
+use rules::Ctx;
 ghost use mathlib.Core.Path.{_≡_};
 ghost use mathlib.Core.Bool.{false};
 ghost use mathlib.Core.List.{List};
@@ -60,7 +61,7 @@ fn interp_region(
             let v = e.verdict;
             if v.passed() {} else {
                 return Outcome {
-                    flow: Flow::Refused(Refusal::Instruction(v)),
+                    flow: Flow::Refused(v),
                     height: h,
                     breaks: k,
                 };
@@ -140,7 +141,7 @@ fn block_at(
     ensures { λ r. ⌜ Long (now (slots .exit)) (now (places .exit)) × Long (now (broken .exit)) (now (held .exit)) × (restOf (chunkIn (now (t .entry)) x) (x .locals) end floor (onwardIn r (now (slots .exit)) (now (places .exit)) (now (broken .exit)) (now (held .exit))) (sheetsOf (now (heights .exit)) (now (blinds .exit))) ≡ visitIn (now (t .entry)) x ip end floor (at height (now (slots .entry)) (now (places .entry))) (breaksIn b (now (broken .entry)) (now (held .entry))) (sheetsOf (now (heights .entry)) (now (blinds .entry))) (leads code target)) × Goes ip end r ⌝ }
 {
     match code {
-        69 => {
+        code::LOOP => {
             loop_at(
                 t,
                 heights,
@@ -158,7 +159,7 @@ fn block_at(
                 b,
             )
         }
-        65 => {
+        code::IF => {
             if_at(
                 t,
                 heights,
@@ -636,7 +637,7 @@ pub fn walk_chunk(t: &[u64], heights: &mut [u8], blinds: &mut [u8], k: usize) ->
     requires { ⌜ Roomy (now t) (now heights) (now blinds) k ⌝ }
     ensures { λ r. ⌜ ((s : List ℕ) × (p : List ℕ) × (q : List ℕ) × (h : List ℕ) × (walkedOf (localsAt (now (t .entry)) k) (outcomeIn r s p q h) (sheetsOf (now (heights .exit)) (now (blinds .exit))) ≡ walk-chunk (chunkOf (now (t .entry)) k) (sheetsOf (now (heights .entry)) (now (blinds .entry))))) ⌝ }
 {
-    let x = apply::context(t, k);
+    let x = rules::context(t, k);
     let end = x.count;
     let mut slots = [0u64; 96];
     let mut places = [0u32; 1536];
@@ -667,14 +668,14 @@ pub fn walk_chunk(t: &[u64], heights: &mut [u8], blinds: &mut [u8], k: usize) ->
 // The walk of all chunks: the first that is refused, with its number.
 pub enum Walk {
     Accepted,
-    Refused(usize, Refusal),
+    Refused(usize, Verdict),
 }
 
 pub fn walk_chunks(t: &[u64], heights: &mut [u8], blinds: &mut [u8]) -> Walk
     requires { ⌜ ((k : ℕ) → k < count (now t) 7 → Roomy (now t) (now heights) (now blinds) k) ⌝ }
     ensures { λ r. ⌜ resultsOf r (sheetsOf (now (heights .exit)) (now (blinds .exit))) ≡ walk-all 0 (chunksOf (now (t .entry))) (sheetsOf (now (heights .entry)) (now (blinds .entry))) ⌝ }
 {
-    let n = bytecode::count(t, 7);
+    let n = bytecode::count(t, bytecode::CHUNKS);
     let mut k = 0;
     while k < n {
         let o = walk_chunk(t, heights, blinds, k);

@@ -1,11 +1,12 @@
 // Walks a chunk with a loop, and then makes the last pass over that loop alone: no listing brings the walk to a last pass. The loop keeps the shape of local 0
 // and changes that of local 1. The walk needs two passes and reads local 0 plainly in both; the last pass forgets both locals, so its read is blind.
-use apply::Ctx;
+use answer::Finding;
 use blocks::Flow;
 use blocks::Leaving;
+use bytecode::code;
 use libc::STDOUT_FILENO;
 use listing::Reading;
-use nesting::Nesting;
+use rules::Ctx;
 ghost use mathlib.Core.Path.{_≡_};
 ghost use Prim.Native.Nat.{_+_, _≤_, _<_};
 ghost use Rattle.definition.specs.Instructions.{control, loopTo};
@@ -95,7 +96,7 @@ fn show_last(t: &[u64], heights: &mut [u8], blinds: &mut [u8], n: usize, ip: usi
     requires { ⌜ Roomy (now t) (now heights) (now blinds) 0 ⌝ }
     requires { ⌜ (n ≤ length (now heights)) × (n ≤ length (now blinds)) ⌝ }
 {
-    let x = apply::context(t, 0);
+    let x = rules::context(t, 0);
     let first = x.first;
     let count = x.count;
     if count <= ip {
@@ -104,7 +105,7 @@ fn show_last(t: &[u64], heights: &mut [u8], blinds: &mut [u8], n: usize, ip: usi
     let i = bytecode::instr_at(t, first + ip);
     let code = i.code;
     let a = i.a;
-    if code != 69 {
+    if code != code::LOOP {
         return;
     }
     let exit = a as usize;
@@ -125,11 +126,11 @@ fn show_last(t: &[u64], heights: &mut [u8], blinds: &mut [u8], n: usize, ip: usi
 
 fn run(t: &[u64; 22232]) {
     let r = nesting::check_nesting(t);
-    let Nesting::Nested = r else {
+    let Finding::Nothing = r else {
         print(b"not nested\n");
         return;
     };
-    if bytecode::count(t, 7) == 0 {
+    if bytecode::count(t, bytecode::CHUNKS) == 0 {
         return;
     }
     let code = bytecode::instructions_of(t, 0);

@@ -6,20 +6,20 @@ use Rattle.bytecode.specs.Meaning.{chunkOf}
 use Rattle.bytecode.specs.Parts.{instrOf}
 use Rattle.shapes.specs.Model.{valueOf}
 use Rattle.frame.specs.Model.{at, stateOf, replaced}
-use Rattle.apply.specs.Answers.{refusal}
-use Rattle.apply.proofs.Tests.{is-none-eq}
-use Rattle.apply.proofs.Numbers.{locals-fit, effect-of}
-use Rattle.apply.proofs.Codes.{is-set-local, local-need}
-use Rattle.apply.proofs.Steps.{take-fits, stepped-as, settled, stopped}
+use Rattle.answer.specs.Answer.{refusal, fields}
+use Rattle.rules.proofs.Tests.{is-none-eq}
+use Rattle.rules.proofs.Numbers.{locals-fit, effect-of}
+use Rattle.rules.proofs.Codes.{is-set-local, local-need}
+use Rattle.rules.proofs.Steps.{take-fits, stepped-as, settled, stopped}
 use native.Mathlib.Omega.{arith}
 use borrow.Author.Needs.{needs}
 use Rattle.apply.proofs.apply_op.Statement.{statement}
 use Rattle.apply.proofs.apply_op.Tie as tie
 use Rattle.apply.proofs.apply_op.Reads as reads
 use Rattle.apply.proofs.apply_op.Lts as lts
-use Rattle.apply.proofs.Verdict.passed.Reads as passed-reads
-use Rattle.apply.proofs.check_room.Reads as check-room-reads
-use Rattle.apply.proofs.count.Reads as count-reads
+use Rattle.answer.proofs.Verdict.passed.Reads as passed-reads
+use Rattle.rules.proofs.check_room.Reads as check-room-reads
+use Rattle.rules.proofs.count.Reads as count-reads
 use Rattle.apply.proofs.rule_of.Reads as rule-of-reads
 use Rattle.apply.proofs.set_local.Reads as set-local-reads
 use Rattle.frame.proofs.replace.Reads as replace-reads
@@ -90,7 +90,7 @@ replace-requires c κs =
 
 -- src/lib.rt:922:1
 returns-3 : tie.Need-returns-3
-unfolding refusal
+unfolding refusal fields
 returns-3 c =
     let a = c .before .before .before .before .before .before .before .before .before .before .before .before .before .before .before .before .args in
     let z = is-none-eq _ (sym (c .before .before .before .before .before .before .before .before .passed .ensures) ∙ c .before .before .before .before .before .before .before .if2 .taken) in (

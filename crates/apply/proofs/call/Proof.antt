@@ -4,15 +4,15 @@ use lib.ListN.{getElem?}
 use Rattle.definition.specs.Effects.{shape-of, returned}
 use Rattle.bytecode.specs.Meaning.{sigsOf}
 use Rattle.frame.specs.Model.{at, stateOf}
-use Rattle.apply.proofs.Calls.{call-rules}
+use Rattle.rules.proofs.Calls.{call-rules}
 use borrow.Author.Needs.{needs}
 use Rattle.apply.proofs.call.Statement.{statement}
 use Rattle.apply.proofs.call.Tie as tie
 use Rattle.apply.proofs.call.Reads as reads
 use Rattle.apply.proofs.call.Lts as lts
 use Rattle.apply.proofs.check_args.Reads as check-args-reads
-use Rattle.apply.proofs.index.Reads as index-reads
-use Rattle.apply.proofs.wire_value.Reads as wire-value-reads
+use Rattle.rules.proofs.index.Reads as index-reads
+use Rattle.rules.proofs.wire_value.Reads as wire-value-reads
 use Rattle.bytecode.proofs.sig_return.Reads as sig-return-reads
 
 -- src/lib.rt:684:9

@@ -12,19 +12,19 @@ use Rattle.bytecode.specs.Meaning.{sigsOf}
 use Rattle.shapes.specs.Model.{placesOf}
 use Rattle.frame.specs.Model.{at, stackOf, valueAt}
 use Rattle.shapes.proofs.Lists.{lt-or-ge}
-use Rattle.apply.specs.Answers.{refusal}
-use Rattle.apply.proofs.Calls.{args-length, args-at, args-start, args-more, args-stop, args-end-first, args-end-last, param-at}
+use Rattle.answer.specs.Answer.{refusal, fields}
+use Rattle.rules.proofs.Calls.{args-length, args-at, args-start, args-more, args-stop, args-end-first, args-end-last, param-at}
 use borrow.Author.Needs.{needs}
 use native.Mathlib.Omega.{arith}
 use Rattle.apply.proofs.check_args.Statement.{statement}
 use Rattle.apply.proofs.check_args.Tie as tie
 use Rattle.apply.proofs.check_args.Reads as reads
 use Rattle.apply.proofs.check_args.Lts as lts
-use Rattle.apply.proofs.from_wire.Reads as from-wire-reads
-use Rattle.apply.proofs.index.Reads as index-reads
-use Rattle.apply.proofs.least.Reads as least-reads
-use Rattle.apply.proofs.shapes_compatible.Reads as shapes-compatible-reads
-use Rattle.apply.proofs.wide.Reads as wide-reads
+use Rattle.rules.proofs.from_wire.Reads as from-wire-reads
+use Rattle.rules.proofs.index.Reads as index-reads
+use Rattle.bytecode.proofs.least.Reads as least-reads
+use Rattle.rules.proofs.shapes_compatible.Reads as shapes-compatible-reads
+use Rattle.rules.proofs.wide.Reads as wide-reads
 use Rattle.bytecode.proofs.sig_param.Reads as sig-param-reads
 use Rattle.bytecode.proofs.sig_params.Reads as sig-params-reads
 use Rattle.frame.proofs.operand.Reads as operand-reads
@@ -104,7 +104,7 @@ wide-requires c κs = search needs
 
 -- src/lib.rt:666:13
 returns : tie.Need-returns Inv-loop μ-loop
-unfolding refusal
+unfolding refusal fields
 returns c =
     let a = c .before .before .before .before .before .before .before .before .before .before .before .before .args in
     let f = valueAt (a .slots .now) (a .places .now) in
@@ -120,7 +120,7 @@ returns c =
 
 -- src/lib.rt:644:1
 returns-2 : tie.Need-returns-2 Inv-loop μ-loop
-unfolding refusal
+unfolding refusal fields
 returns-2 c =
     let a = c .before .before .before .before .before .before .args in
     let f = valueAt (a .slots .now) (a .places .now) in

@@ -6,19 +6,19 @@ use Rattle.bytecode.specs.Meaning.{chunkOf}
 use Rattle.bytecode.specs.Parts.{instrOf}
 use Rattle.frame.specs.Model.{at, stateOf, valueAt}
 use Rattle.shapes.proofs.Lists.{down-length}
-use Rattle.apply.specs.Answers.{refusal}
-use Rattle.apply.proofs.Tests.{is-none-eq}
-use Rattle.apply.proofs.Numbers.{effect-of}
-use Rattle.apply.proofs.Steps.{examine-step, examine-stop}
+use Rattle.answer.specs.Answer.{refusal, fields}
+use Rattle.rules.proofs.Tests.{is-none-eq}
+use Rattle.rules.proofs.Numbers.{effect-of}
+use Rattle.rules.proofs.Steps.{examine-step, examine-stop}
 use native.Mathlib.Omega.{arith}
 use Rattle.apply.proofs.examine.Statement.{statement}
 use Rattle.apply.proofs.examine.Tie as tie
 use Rattle.apply.proofs.examine.Reads as reads
 use Rattle.apply.proofs.examine.Lts as lts
-use Rattle.apply.proofs.Verdict.passed.Reads as passed-reads
+use Rattle.answer.proofs.Verdict.passed.Reads as passed-reads
 use Rattle.apply.proofs.apply_op.Reads as apply-op-reads
-use Rattle.apply.proofs.check_need.Reads as check-need-reads
-use Rattle.apply.proofs.index.Reads as index-reads
+use Rattle.rules.proofs.check_need.Reads as check-need-reads
+use Rattle.rules.proofs.index.Reads as index-reads
 use Rattle.apply.proofs.met_unknown.Reads as met-unknown-reads
 use Rattle.bytecode.proofs.op_depth_effect.Reads as op-depth-effect-reads
 use borrow.Author.Needs.{needs}

@@ -3,7 +3,7 @@ use mathlib.Core.Path.{sym, ap}
 use mathlib.Core.Logic.{inl, inr}
 use mathlib.Core.Path.{_∙_}
 use Prim.Native.Nat.{ℕ}
-use Rattle.apply.proofs.Looks.{looks-local, looks-under, looks-top}
+use Rattle.rules.proofs.Looks.{looks-local, looks-under, looks-top}
 use native.Mathlib.Omega.{arith}
 use borrow.Author.Needs.{needs}
 use Rattle.apply.proofs.looks_at.Statement.{statement}

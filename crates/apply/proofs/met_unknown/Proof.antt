@@ -1,12 +1,12 @@
 use mathlib.Core.Path.{ap, _∙_}
 use Rattle.definition.specs.Tests.{is-unknown}
 use Rattle.frame.specs.Model.{at, stackOf}
-use Rattle.apply.proofs.Codes.{mark-index, mark-part, mark-flat, mark-nested, unmarked}
+use Rattle.rules.proofs.Codes.{mark-index, mark-part, mark-flat, mark-nested, unmarked}
 use Rattle.apply.proofs.met_unknown.Statement.{statement}
 use Rattle.apply.proofs.met_unknown.Tie as tie
 use Rattle.apply.proofs.met_unknown.Reads as reads
 use Rattle.apply.proofs.met_unknown.Lts as lts
-use Rattle.apply.proofs.is_unknown.Reads as is-unknown-reads
+use Rattle.rules.proofs.is_unknown.Reads as is-unknown-reads
 use Rattle.frame.proofs.operand.Reads as operand-reads
 use borrow.Author.Needs.{needs}
 

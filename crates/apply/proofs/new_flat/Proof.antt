@@ -1,15 +1,15 @@
 use mathlib.Core.Path.{sym, _∙_}
 use Rattle.frame.specs.Model.{at, stateOf}
-use Rattle.apply.proofs.Rules.{enum-rules, size-refused, body-rules}
+use Rattle.rules.proofs.Rules.{enum-rules, size-refused, body-rules}
 use Rattle.apply.proofs.new_flat.Statement.{statement}
 use Rattle.apply.proofs.new_flat.Tie as tie
 use Rattle.apply.proofs.new_flat.Reads as reads
 use Rattle.apply.proofs.new_flat.Lts as lts
-use Rattle.apply.proofs.Verdict.passed.Reads as passed-reads
-use Rattle.apply.proofs.check_enum_size.Reads as check-enum-size-reads
+use Rattle.answer.proofs.Verdict.passed.Reads as passed-reads
+use Rattle.rules.proofs.check_enum_size.Reads as check-enum-size-reads
 use Rattle.apply.proofs.check_packed_size.Reads as check-packed-size-reads
-use Rattle.apply.proofs.new_body.Reads as new-body-reads
-use Rattle.apply.proofs.refusing.Reads as refusing-reads
+use Rattle.rules.proofs.new_body.Reads as new-body-reads
+use Rattle.rules.proofs.refusing.Reads as refusing-reads
 use Rattle.frame.proofs.built_text_layout.Reads as built-text-layout-reads
 use Rattle.shapes.proofs.composite_value.Reads as composite-value-reads
 use Rattle.shapes.proofs.unknown_value.Reads as unknown-value-reads

@@ -7,19 +7,19 @@ use Rattle.definition.specs.Effects.{need}
 use Rattle.bytecode.specs.Meaning.{chunkOf, chunk-sigs, chunk-enum-sizes}
 use Rattle.bytecode.specs.Parts.{instrOf}
 use Rattle.frame.specs.Model.{at, stateOf}
-use Rattle.apply.specs.Rules.{Rules, Looks}
-use Rattle.apply.proofs.Numbers.{locals-fit, effect-of}
-use Rattle.apply.proofs.Codes.{as-call, as-new, new-kind, call-need, new-need}
+use Rattle.rules.specs.Rules.{Rules, Looks}
+use Rattle.rules.proofs.Numbers.{locals-fit, effect-of}
+use Rattle.rules.proofs.Codes.{as-call, as-new, new-kind, call-need, new-need}
 use borrow.Author.Needs.{needs}
 use Rattle.apply.proofs.rule_of.Statement.{statement}
 use Rattle.apply.proofs.rule_of.Tie as tie
 use Rattle.apply.proofs.rule_of.Reads as reads
 use Rattle.apply.proofs.rule_of.Lts as lts
 use Rattle.apply.proofs.call.Reads as call-reads
-use Rattle.apply.proofs.index.Reads as index-reads
+use Rattle.rules.proofs.index.Reads as index-reads
 use Rattle.apply.proofs.looks_at.Reads as looks-at-reads
 use Rattle.apply.proofs.new_flat.Reads as new-flat-reads
-use Rattle.apply.proofs.rule_by.Reads as rule-by-reads
+use Rattle.rules.proofs.rule_by.Reads as rule-by-reads
 use Rattle.frame.proofs.value_at.Reads as value-at-reads
 
 -- src/lib.rt:857:52

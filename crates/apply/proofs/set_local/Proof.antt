@@ -13,18 +13,18 @@ use Rattle.bytecode.specs.Meaning.{chunkOf, chunk-sig}
 use Rattle.shapes.specs.Model.{valueOf}
 use Rattle.frame.specs.Model.{at, stateOf, valueAt, stackOf, withLocal}
 use Rattle.shapes.proofs.Lists.{down-length}
-use Rattle.apply.specs.Answers.{refusal}
-use Rattle.apply.proofs.Numbers.{locals-fit}
-use Rattle.apply.proofs.Steps.{local-refused, local-done, local-blind}
+use Rattle.answer.specs.Answer.{refusal, fields}
+use Rattle.rules.proofs.Numbers.{locals-fit}
+use Rattle.rules.proofs.Steps.{local-refused, local-done, local-blind}
 use native.Mathlib.Omega.{arith}
 use Rattle.apply.proofs.set_local.Statement.{statement}
 use Rattle.apply.proofs.set_local.Tie as tie
 use Rattle.apply.proofs.set_local.Reads as reads
 use Rattle.apply.proofs.set_local.Lts as lts
-use Rattle.apply.proofs.from_wire.Reads as from-wire-reads
-use Rattle.apply.proofs.index.Reads as index-reads
-use Rattle.apply.proofs.shapes_compatible.Reads as shapes-compatible-reads
-use Rattle.apply.proofs.wide.Reads as wide-reads
+use Rattle.rules.proofs.from_wire.Reads as from-wire-reads
+use Rattle.rules.proofs.index.Reads as index-reads
+use Rattle.rules.proofs.shapes_compatible.Reads as shapes-compatible-reads
+use Rattle.rules.proofs.wide.Reads as wide-reads
 use Rattle.bytecode.proofs.sig_param.Reads as sig-param-reads
 use Rattle.frame.proofs.operand.Reads as operand-reads
 use Rattle.frame.proofs.set_local.Reads as set-local-reads
@@ -64,7 +64,7 @@ sub-t19 c = search needs
 
 -- src/lib.rt:724:9
 returns : tie.Need-returns
-unfolding refusal
+unfolding refusal fields
 returns c =
     let a = c .before .before .before .before .before .before .before .before .before .before .before .before .before .args in
     let d = chunkOf (a .t .now) (a .x .chunk) in
@@ -88,7 +88,7 @@ wide-requires c κs = search needs
 
 -- src/lib.rt:706:1
 returns-2 : tie.Need-returns-2
-unfolding refusal
+unfolding refusal fields
 returns-2 c =
     let a = c .before .before .before .before .before .before .before .before .before .before .args in
     let d = chunkOf (a .t .now) (a .x .chunk) in

@@ -6,8 +6,8 @@ use Rattle.blocks.specs.Outcomes.{breaksIn, onwardIn}
 use Rattle.blocks.specs.declared.Breaks.{Breaks}
 use Rattle.blocks.specs.declared.Flow.the-variants.{Falls}
 use Rattle.definition.specs.Effects.{need}
-use Rattle.apply.proofs.Numbers.{effect-of}
-use Rattle.apply.proofs.Tests.{is-none-eq}
+use Rattle.rules.proofs.Numbers.{effect-of}
+use Rattle.rules.proofs.Tests.{is-none-eq}
 use Rattle.blocks.specs.Visits.{chunkIn, instrIn}
 use Rattle.blocks.proofs.Guards as Guards
 use Rattle.bytecode.specs.Meaning.{locals-low}
@@ -18,7 +18,7 @@ use Rattle.blocks.proofs.break_if_at.Statement.{statement}
 use Rattle.blocks.proofs.break_if_at.Tie as tie
 use Rattle.blocks.proofs.break_if_at.Reads as reads
 use Rattle.blocks.proofs.break_if_at.Lts as lts
-use Rattle.apply.proofs.Verdict.passed.Reads as passed-reads
+use Rattle.answer.proofs.Verdict.passed.Reads as passed-reads
 use Rattle.blocks.proofs.add_break.Reads as add-break-reads
 use Rattle.blocks.proofs.guard_at.Reads as guard-at-reads
 use Rattle.blocks.proofs.refused_at.Reads as refused-at-reads

@@ -4,6 +4,8 @@ use Rattle.definition.specs.Basics.{ok}
 use Rattle.definition.specs.Walk.{State as AnyState, Left as AnyLeft}
 use Rattle.blocks.proofs.Laws.{leave-none, leave-joined, leave-unequal}
 use Rattle.blocks.specs.Outcomes.{breaksIn, leavingOf, numbers}
+use Rattle.rules.specs.Answers.{values-of}
+use Rattle.answer.specs.Answer.{refusal, fields}
 use borrow.Author.Needs.{needs}
 use Rattle.blocks.proofs.leave_loop.Statement.{statement}
 use Rattle.blocks.proofs.leave_loop.Tie as tie
@@ -39,7 +41,7 @@ returns-2 c = (search needs, (λ sh. ap (λ (z : AnyState). ok (record { state =
 
 -- src/lib.rt:221:1
 returns-3 : tie.Need-returns-3
-unfolding leavingOf numbers
+unfolding leavingOf numbers values-of refusal fields
 returns-3 c = (search needs, (λ sh. leave-unequal (c .before .before .before .args .locals) (c .before .before .before .args .ip) (breaksIn (c .before .before .before .args .k) (c .before .before .before .args .broken .now) (c .before .before .before .args .held .now)) _ sh (c .before .p .given .1)), search needs)
 
 pub leave-loop-spec : {M : Type 1} → statement M

@@ -10,7 +10,7 @@ use Rattle.blocks.proofs.start_locals.Statement.{statement}
 use Rattle.blocks.proofs.start_locals.Tie as tie
 use Rattle.blocks.proofs.start_locals.Reads as reads
 use Rattle.blocks.proofs.start_locals.Lts as lts
-use Rattle.apply.proofs.wire_value.Reads as wire-value-reads
+use Rattle.rules.proofs.wire_value.Reads as wire-value-reads
 use Rattle.bytecode.proofs.sig_param.Reads as sig-param-reads
 use Rattle.frame.proofs.set_local.Reads as set-local-reads
 use borrow.Author.Needs.{needs}

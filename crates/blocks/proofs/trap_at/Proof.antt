@@ -5,8 +5,8 @@ use Rattle.frame.specs.Model.{at}
 use Rattle.blocks.specs.Outcomes.{breaksIn, onwardIn}
 use Rattle.blocks.specs.declared.Breaks.{Breaks}
 use Rattle.definition.specs.Effects.{need}
-use Rattle.apply.proofs.Numbers.{effect-of}
-use Rattle.apply.proofs.Tests.{is-none-eq}
+use Rattle.rules.proofs.Numbers.{effect-of}
+use Rattle.rules.proofs.Tests.{is-none-eq}
 use Rattle.blocks.specs.Visits.{chunkIn, instrIn}
 use Rattle.blocks.proofs.Guards as Guards
 use Rattle.blocks.proofs.Steps.{visit-stops, visit-refused}
@@ -16,7 +16,7 @@ use Rattle.blocks.proofs.trap_at.Statement.{statement}
 use Rattle.blocks.proofs.trap_at.Tie as tie
 use Rattle.blocks.proofs.trap_at.Reads as reads
 use Rattle.blocks.proofs.trap_at.Lts as lts
-use Rattle.apply.proofs.Verdict.passed.Reads as passed-reads
+use Rattle.answer.proofs.Verdict.passed.Reads as passed-reads
 use Rattle.blocks.proofs.guard_at.Reads as guard-at-reads
 use Rattle.blocks.proofs.refused_at.Reads as refused-at-reads
 use Rattle.bytecode.proofs.instr_at.Reads as instr-at-reads

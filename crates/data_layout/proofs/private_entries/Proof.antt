@@ -36,10 +36,13 @@ private-one-requires c κs = search needs
 enum-told : tie.Need-enum-told Inv-loop μ-loop
 enum-told c = search needs
 
+enum-told-2 : tie.Need-enum-told-2 Inv-loop μ-loop
+enum-told-2 c = search needs
+
 returns : tie.Need-returns Inv-loop μ-loop
 returns c =
-    private-bad (c .before .before .before .before .before .before .before .before .before .args .t .now) (c .before .before .before .before .loop .i) (c .before .before .before .before .loop .before) (omega (arith, c .before .before .before .before .before .count2 .ensures)) (c .before .before .before .before .loop .inv) (c .before .before .before .before .before .before .count .result) (c .before .before .before .before .before .before .before .header-at .result .«pool_bytes») (c .before .before .before .before .before .before .count .ensures)
-    (pool-is (c .before .before .before .before .before .before .before .before .before .args .t .now) (c .before .before .before .before .before .before .before .header-at .result) (c .before .before .before .before .before .before .before .header-at .ensures)) (c .before .before .private-at .result) (c .before .before .private-at .ensures) (c .before .private-one .result) (c .before .private-one .ensures) (c .match .keys2)
+    private-bad (c .before .before .before .before .before .before .before .before .before .before .args .t .now) (c .before .before .before .before .before .loop .i) (c .before .before .before .before .before .loop .before) (omega (arith, c .before .before .before .before .before .before .count2 .ensures)) (c .before .before .before .before .before .loop .inv) (c .before .before .before .before .before .before .before .count .result) (c .before .before .before .before .before .before .before .before .header-at .result .«pool_bytes») (c .before .before .before .before .before .before .before .count .ensures)
+    (pool-is (c .before .before .before .before .before .before .before .before .before .before .args .t .now) (c .before .before .before .before .before .before .before .before .header-at .result) (c .before .before .before .before .before .before .before .before .header-at .ensures)) (c .before .before .before .private-at .result) (c .before .before .before .private-at .ensures) (c .before .before .private-one .result) (c .before .before .private-one .ensures) (c .enum-told2 .given .1)
 
 add-i : tie.Need-add-i Inv-loop μ-loop
 add-i c = search needs
@@ -68,7 +71,7 @@ private-entries-spec =
     private-at-requires
     private-one-requires
     enum-told
-    returns
+    enum-told-2 returns
     add-i
     loop-less
     loop-again

@@ -4,6 +4,9 @@ use borrow.Author.Needs.{needs}
 use Rattle.data_layout.proofs.private_entry.Statement.{statement}
 use Rattle.data_layout.proofs.private_entry.Tie as tie
 
+cast-at : tie.Need-cast-at
+cast-at c = search needs
+
 cast-if1 : tie.Need-cast-if1
 cast-if1 c = search needs
 
@@ -17,4 +20,4 @@ returns-3 : tie.Need-returns-3
 returns-3 c = entry-in (c .before .before .args .slots) (c .before .before .args .pool) (c .before .before .args .i) (c .before .before .args .e) (c .before .if1 .left) (c .if2 .left)
 
 pub private-entry-spec : {M : Type 1} → statement M
-private-entry-spec = tie.close (tie.spec cast-if1 returns returns-2 returns-3)
+private-entry-spec = tie.close (tie.spec cast-at cast-if1 returns returns-2 returns-3)

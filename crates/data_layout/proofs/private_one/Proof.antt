@@ -10,8 +10,11 @@ private-entry-requires c κs = search needs
 enum-told : tie.Need-enum-told
 enum-told c = search needs
 
+enum-told-2 : tie.Need-enum-told-2
+enum-told-2 c = search needs
+
 returns : tie.Need-returns
-returns c = first-bad (c .before .private-entry .result) _ _ (c .match .keys2) (c .before .private-entry .ensures)
+returns c = first-bad (c .before .before .private-entry .result) _ _ (c .enum-told2 .given .1) (c .before .before .private-entry .ensures)
 
 private-order-requires : tie.Need-private-order-requires
 private-order-requires c κs = search needs
@@ -21,4 +24,4 @@ returns-2 c = first-good (c .before .before .before .private-entry .result) _ _ 
 
 pub private-one-spec : {M : Type 1} → statement M
 private-one-spec =
-    tie.close (tie.spec private-entry-requires enum-told returns private-order-requires returns-2)
+    tie.close (tie.spec private-entry-requires enum-told enum-told-2 returns private-order-requires returns-2)

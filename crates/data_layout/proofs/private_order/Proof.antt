@@ -4,6 +4,9 @@ use borrow.Author.Needs.{needs}
 use Rattle.data_layout.proofs.private_order.Statement.{statement}
 use Rattle.data_layout.proofs.private_order.Tie as tie
 
+cast-at : tie.Need-cast-at
+cast-at c = search needs
+
 enum-told : tie.Need-enum-told
 enum-told c = search needs
 
@@ -24,4 +27,4 @@ returns-4 c = in-order (c .before .before .before .before .before .before .befor
 
 pub private-order-spec : {M : Type 1} → statement M
 private-order-spec =
-    tie.close (tie.spec enum-told enum-known-before returns returns-2 returns-3 returns-4)
+    tie.close (tie.spec cast-at enum-told enum-known-before returns returns-2 returns-3 returns-4)

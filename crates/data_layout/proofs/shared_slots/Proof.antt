@@ -39,11 +39,14 @@ shared-slot-requires c κs = search needs
 enum-told : tie.Need-enum-told Inv-loop μ-loop
 enum-told c = search needs
 
+enum-told-2 : tie.Need-enum-told-2 Inv-loop μ-loop
+enum-told-2 c = search needs
+
 returns : tie.Need-returns Inv-loop μ-loop
 returns c =
-    shared-bad (c .before .before .before .before .before .before .before .before .before .before .args .t .now) (c .before .before .before .before .before .loop .i) (omega (arith, c .before .before .before .before .before .before .count .ensures)) (c .before .before .before .before .before .loop .inv) (c .before .before .before .before .before .before .before .before .header-at .result .«shared_bytes») (buffer-is (c .before .before .before .before .before .before .before .before .before .before .args .t .now) (c .before .before .before .before .before .before .before .before .header-at .result) (c .before .before .before .before .before .before .before .before .header-at .ensures))
-    (c .before .before .before .shared-at .result) (c .before .before .before .shared-at .ensures) (c .before .before .size-of .result) (c .before .before .size-of .ensures (headerOf (c .before .before .before .before .before .before .before .before .before .before .args .t .now)) (c .before .before .before .before .before .before .before .widths .ensures)) (c .before .shared-slot .result) (c .before .shared-slot .ensures)
-    (c .match .keys2)
+    shared-bad (c .before .before .before .before .before .before .before .before .before .before .before .args .t .now) (c .before .before .before .before .before .before .loop .i) (omega (arith, c .before .before .before .before .before .before .before .count .ensures)) (c .before .before .before .before .before .before .loop .inv) (c .before .before .before .before .before .before .before .before .before .header-at .result .«shared_bytes») (buffer-is (c .before .before .before .before .before .before .before .before .before .before .before .args .t .now) (c .before .before .before .before .before .before .before .before .before .header-at .result) (c .before .before .before .before .before .before .before .before .before .header-at .ensures))
+    (c .before .before .before .before .shared-at .result) (c .before .before .before .before .shared-at .ensures) (c .before .before .before .size-of .result) (c .before .before .before .size-of .ensures (headerOf (c .before .before .before .before .before .before .before .before .before .before .before .args .t .now)) (c .before .before .before .before .before .before .before .before .widths .ensures)) (c .before .before .shared-slot .result) (c .before .before .shared-slot .ensures)
+    (c .enum-told2 .given .1)
 
 add-i : tie.Need-add-i Inv-loop μ-loop
 add-i c = search needs
@@ -74,7 +77,7 @@ shared-slots-spec =
     size-of-requires
     shared-slot-requires
     enum-told
-    returns
+    enum-told-2 returns
     add-i
     loop-less
     loop-again

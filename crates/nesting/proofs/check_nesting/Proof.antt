@@ -21,73 +21,61 @@ Inv-loop t n k₀ found₀ k found = State t k found
 abbrev μ-loop : tie.MeasureT-loop
 μ-loop t n k₀ found₀ k found = n - k
 
--- src/lib.rt:379:9
 count-requires : tie.Need-count-requires Inv-loop μ-loop
 count-requires c κs = search needs
 
--- src/lib.rt:382:5
 loop-holds : tie.Need-loop-holds Inv-loop μ-loop
 loop-holds c = start (c .before .before .args .t .now)
 
--- src/lib.rt:383:13
 check-chunk-requires : tie.Need-check-chunk-requires Inv-loop μ-loop
 unfolding cap
 check-chunk-requires c κs = omega (arith, c .before .before .count .ensures, count-low (c .before .before .before .before .args .t .now) 7)
 
--- src/lib.rt:385:34
 enum-known-r : tie.Need-enum-known-r Inv-loop μ-loop
 enum-known-r c = search needs
 
--- src/lib.rt:385:40
+cast-ip : tie.Need-cast-ip Inv-loop μ-loop
+cast-ip c = search needs
+
 returns : tie.Need-returns Inv-loop μ-loop
 returns c =
     is-broken (c .before .before .before .before .before .before .before .before .args .t .now) (c .before .before .before .before .before .loop .k) (c .before .before .before .before .before .loop .found) (c .before .before .before .before .before .loop .inv) (omega (arith, c .before .before .before .before .before .before .count .ensures)) (c .before .before .before .check-chunk .result)
     (c .before .before .before .check-chunk .ensures)
     _ (c .before .r .given .1)
 
--- src/lib.rt:386:35
 enum-known-r-2 : tie.Need-enum-known-r-2 Inv-loop μ-loop
 enum-known-r-2 c = search needs
 
--- src/lib.rt:387:17
 first-found-requires : tie.Need-first-found-requires Inv-loop μ-loop
 first-found-requires c κs = search needs
 
--- src/lib.rt:388:17
 add-k : tie.Need-add-k Inv-loop μ-loop
 add-k c = search needs
 
--- src/lib.rt:382:5
 loop-less : tie.Need-loop-less Inv-loop μ-loop
 loop-less c = search needs
 
--- src/lib.rt:382:5
 loop-again : tie.Need-loop-again Inv-loop μ-loop
 loop-again c =
     is-deep (c .before .before .before .before .before .before .before .before .before .args .t .now) (c .before .before .before .before .before .before .loop .k) (c .before .before .before .before .before .before .loop .found) (c .before .before .before .before .before .before .loop .inv) (omega (arith, c .before .before .before .before .before .before .before .count .ensures)) (c .before .before .before .before .check-chunk .result)
     (c .before .before .before .before .check-chunk .ensures)
     _ (c .first-found .result) (c .before .before .r2 .given .1) (c .first-found .ensures)
 
--- src/lib.rt:391:17
 enum-told : tie.Need-enum-told Inv-loop μ-loop
 enum-told c = search needs
 
--- src/lib.rt:391:17
 add-k-2 : tie.Need-add-k-2 Inv-loop μ-loop
 add-k-2 c = search needs
 
--- src/lib.rt:382:5
 loop-less-2 : tie.Need-loop-less-2 Inv-loop μ-loop
 loop-less-2 c = search needs
 
--- src/lib.rt:382:5
 loop-again-2 : tie.Need-loop-again-2 Inv-loop μ-loop
 loop-again-2 c =
     is-nested (c .before .before .before .before .before .before .before .args .t .now) (c .before .before .before .before .loop .k) (c .before .before .before .before .loop .found) (c .before .before .before .before .loop .inv) (omega (arith, c .before .before .before .before .before .count .ensures)) (c .before .before .check-chunk .result)
     (c .before .before .check-chunk .ensures)
     (c .enum-told .given .1)
 
--- src/lib.rt:376:1
 returns-2 : tie.Need-returns-2 Inv-loop μ-loop
 returns-2 c = ends-well (c .before .before .before .before .args .t .now) (c .before .loop .k) (c .before .loop .found) (c .before .loop .inv) (omega (arith, c .before .before .count .ensures))
 
@@ -101,6 +89,7 @@ check-nesting-spec =
     loop-holds
     check-chunk-requires
     enum-known-r
+    cast-ip
     returns
     enum-known-r-2
     first-found-requires

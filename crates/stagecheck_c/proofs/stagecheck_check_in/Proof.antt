@@ -1,5 +1,4 @@
 use Rattle.stagecheck_c.proofs.Laws.{given-all, sound-all}
-use Rattle.typed_check.proofs.Whole.{sound}
 use borrow.Author.Needs.{needs}
 use Rattle.stagecheck_c.proofs.stagecheck_check_in.Statement.{statement}
 use Rattle.stagecheck_c.proofs.stagecheck_check_in.Tie as tie
@@ -33,7 +32,7 @@ same-length-2 c = search needs
 returns : tie.Need-returns
 returns c = (
   given-all _ (c .before .before .before .before .before .before .before .before .check-into .result) (c .before .before .before .numbers .result) _ _ _ (c .before .before .before .before .before .before .before .before .check-into .ensures .0) (c .before .before .before .numbers .ensures) (c .give .ensures),
-  sound-all _ _ (c .before .before .before .before .before .before .before .before .check-into .result) _ _ (c .before .before .before .before .before .before .before .before .check-into .ensures .0) (sound _ _ _ (c .before .before .before .before .before .before .before .before .check-into .result) _ _ (c .before .before .before .before .before .before .before .before .check-into .ensures .0)),
+  sound-all _ _ (c .before .before .before .before .before .before .before .before .check-into .result) _ _ (c .before .before .before .before .before .before .before .before .check-into .ensures .0) (c .before .before .before .before .before .before .before .before .check-into .ensures .1 .0),
 )
 
 pub stagecheck-check-in-spec : {M : Type 1} → statement M

@@ -39,7 +39,7 @@ slice-aggregate-print-accepted-2 c = search needs
 
 -- src/lib.rt:15:35
 print-accepted-requires : tie.Need-print-accepted-requires
-print-accepted-requires c κs = room (c .before .before .before .before .before .before .before .before .before .before .before .before .before .before .args .listing .now) (c .before .before .before .before .before .before .before .before .before .check-into .last .1 .0) (c .before .before .before .before .before .before .before .before .before .check-into .last .1 .1 .0) (c .before .before .before .before .before .before .before .before .before .check-into .last .1 .1 .1 .0) (c .before .before .before .before .before .before .before .before .before .check-into .result) (c .before .before .before .before .before .before .before .before .before .check-into .ensures .0) (c .before .before .before .before .before .enum-told .given .1) (c .before .before .before .before .before .before .before .before .before .check-into .ensures .1)
+print-accepted-requires c κs = room (c .before .before .before .before .before .before .before .before .before .before .before .before .before .before .args .listing .now) (c .before .before .before .before .before .before .before .before .before .check-into .last .1 .0) (c .before .before .before .before .before .before .before .before .before .check-into .last .1 .1 .0) (c .before .before .before .before .before .before .before .before .before .check-into .last .1 .1 .1 .0) (c .before .before .before .before .before .before .before .before .before .check-into .result) (c .before .before .before .before .before .before .before .before .before .check-into .ensures .0) (c .before .before .before .before .before .enum-told .given .1) (c .before .before .before .before .before .before .before .before .before .check-into .ensures .1 .1)
 
 -- src/lib.rt:16:25
 enum-known-a : tie.Need-enum-known-a
@@ -51,19 +51,19 @@ numbers-requires c κs = search needs
 
 -- src/lib.rt:20:36
 array-share-prefix-words : tie.Need-array-share-prefix-words
-array-share-prefix-words c = omega (arith, words-eight _ (c .before .numbers .result) (c .before .numbers .ensures), count-few _ (c .before .numbers .result) (c .before .numbers .ensures))
+array-share-prefix-words c = omega (arith, words-eight _ _ (c .before .numbers .result) (c .before .numbers .ensures), count-few _ _ (c .before .numbers .result) (c .before .numbers .ensures))
 
 -- src/lib.rt:20:36
 slice-aggregate-print-refused : tie.Need-slice-aggregate-print-refused
-slice-aggregate-print-refused c = sym (length-take-le _ (c .before .before .numbers .result .words) (omega (arith, words-eight _ (c .before .before .numbers .result) (c .before .before .numbers .ensures), count-few _ (c .before .before .numbers .result) (c .before .before .numbers .ensures))))
+slice-aggregate-print-refused c = sym (length-take-le _ (c .before .before .numbers .result .words) (omega (arith, words-eight _ _ (c .before .before .numbers .result) (c .before .before .numbers .ensures), count-few _ _ (c .before .before .numbers .result) (c .before .before .numbers .ensures))))
 
 -- src/lib.rt:20:13
 print-refused-requires : tie.Need-print-refused-requires
-print-refused-requires c κs = search (first-few, words-eight _ (c .before .before .before .numbers .result) (c .before .before .before .numbers .ensures))
+print-refused-requires c κs = search (first-few, words-eight _ _ (c .before .before .before .numbers .result) (c .before .before .before .numbers .ensures))
 
 -- src/lib.rt:8:1
 returns : tie.Need-returns
-returns c = renamed (accepted-is (c .before .before .before .before .before .before .before .before .before .before .before .before .before .before .before .args .listing .now) (c .before .before .before .before .before .before .before .before .before .before .check-into .last .1 .0) (c .before .before .before .before .before .before .before .before .before .before .check-into .last .1 .1 .0) (c .before .before .before .before .before .before .before .before .before .before .check-into .last .1 .1 .1 .0) (c .before .before .before .before .before .before .before .before .before .before .check-into .result) (c .before .before .before .before .before .before .before .before .before .before .check-into .ensures .0) (c .before .before .before .before .before .before .enum-told .given .1) (c .before .before .before .before .before .before .before .before .before .before .check-into .ensures .1)) (c .print-accepted .ensures)
+returns c = renamed (accepted-is (c .before .before .before .before .before .before .before .before .before .before .before .before .before .before .before .args .listing .now) (c .before .before .before .before .before .before .before .before .before .before .check-into .last .1 .0) (c .before .before .before .before .before .before .before .before .before .before .check-into .last .1 .1 .0) (c .before .before .before .before .before .before .before .before .before .before .check-into .last .1 .1 .1 .0) (c .before .before .before .before .before .before .before .before .before .before .check-into .result) (c .before .before .before .before .before .before .before .before .before .before .check-into .ensures .0) (c .before .before .before .before .before .before .enum-told .given .1) (c .before .before .before .before .before .before .before .before .before .before .check-into .ensures .1 .1)) (c .print-accepted .ensures)
 
 -- src/lib.rt:8:1
 returns-2 : tie.Need-returns-2

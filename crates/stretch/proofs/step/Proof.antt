@@ -46,14 +46,14 @@ use denote.Triple.Walked.{says, needs, Stays, stay-ref, gave-slice, stay-none, s
 use denote.Triple.Clauses.{ensured, lasts}
 use denote.Exit.{yes}
 use Rattle.frame.specs.Model.{at, Long}
-use Rattle.apply.specs.declared.Ctx.{Ctx}
-use Rattle.apply.specs.Answers.{Of}
+use Rattle.rules.specs.declared.Ctx.{Ctx}
+use Rattle.rules.specs.Answers.{Of}
 use Rattle.stretch.specs.declared.Ran.{Ran}
 use Rattle.stretch.specs.declared.State.{State}
 use Rattle.stretch.specs.Lent.{Left}
 use Rattle.stretch.specs.Stretch.{sheetsOf, Ran-is}
-use Rattle.apply.proofs.Ctx as X
-use Rattle.apply.proofs.Ctx.Laws as X′
+use Rattle.rules.proofs.Ctx as X
+use Rattle.rules.proofs.Ctx.Laws as X′
 use Rattle.stretch.proofs.State as T
 use Rattle.stretch.proofs.State.Laws as T′
 use Rattle.stretch.proofs.Ran as R

@@ -8,7 +8,7 @@ use Rattle.stretch.proofs.stretch.Statement.{statement}
 use Rattle.stretch.proofs.stretch.Tie as tie
 use Rattle.stretch.proofs.stretch.Reads as reads
 use Rattle.stretch.proofs.stretch.Lts as lts
-use Rattle.apply.proofs.Verdict.passed.Reads as passed-reads
+use Rattle.answer.proofs.Verdict.passed.Reads as passed-reads
 use Rattle.apply.proofs.examine.Reads as examine-reads
 use Rattle.bytecode.proofs.instr_at.Reads as instr-at-reads
 use Rattle.stretch.proofs.is_straight.Reads as is-straight-reads

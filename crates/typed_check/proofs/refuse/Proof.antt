@@ -7,25 +7,20 @@ use Rattle.typed_check.proofs.refuse.Reads as reads
 use Rattle.typed_check.proofs.refuse.Lts as lts
 use Rattle.typed_check.proofs.clear.Reads as clear-reads
 
--- src/lib.rt:234:5
 clear-requires : tie.Need-clear-requires
 clear-requires c κs = search needs
 
--- src/lib.rt:235:5
 clear-requires-2 : tie.Need-clear-requires-2
 clear-requires-2 c κs = search needs
 
--- src/lib.rt:231:1
 same-length : tie.Need-same-length
 same-length c = search needs
 
--- src/lib.rt:231:1
 same-length-2 : tie.Need-same-length-2
 same-length-2 c = search needs
 
--- src/lib.rt:231:1
 returns : tie.Need-returns
-returns c = refused-is (c .before .before .before .before .before .before .before .before .before .before .args .r) _ _ _ _ (c .before .before .before .before .before .before .clear .ensures) (c .before .before .clear2 .ensures)
+returns c = refused-is (c .before .before .before .before .before .before .before .before .before .before .args .k) (c .before .before .before .before .before .before .before .before .before .before .args .r) _ _ _ _ (c .before .before .before .before .before .before .clear .ensures) (c .before .before .clear2 .ensures)
 
 pub refuse-spec : {M : Type 1} → statement M
 refuse-spec =

@@ -1,5 +1,4 @@
 -- `typed_check::typed_check` meets its contract. Assumes nothing.
-use Rattle.typed_check.proofs.Whole.{sound}
 use borrow.Author.Needs.{needs}
 use Rattle.typed_check.proofs.typed_check.Statement.{statement}
 use Rattle.typed_check.proofs.typed_check.Tie as tie
@@ -23,7 +22,7 @@ same-length-2 c = search needs
 returns : tie.Need-returns
 returns c = (
   c .before .before .before .before .check-into .ensures .0,
-  sound _ _ _ (c .before .before .before .before .check-into .result) _ _ (c .before .before .before .before .check-into .ensures .0),
+  c .before .before .before .before .check-into .ensures .1 .0,
 )
 
 pub typed-check-spec : {M : Type 1} → statement M

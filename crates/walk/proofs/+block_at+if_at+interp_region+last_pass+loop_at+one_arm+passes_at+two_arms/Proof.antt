@@ -17,13 +17,12 @@ use Rattle.blocks.specs.Visits as Visits
 use Rattle.blocks.specs.declared.Breaks.{Breaks}
 use Rattle.blocks.specs.declared.Flow.{Flow}
 use Rattle.blocks.specs.declared.Flow.the-variants.{Refused, Falls}
-use Rattle.blocks.specs.declared.Refusal.the-variants.{Instruction}
 use Rattle.blocks.specs.declared.Pending.the-variants.{Nothing}
 use Rattle.stretch.proofs.Codes as Codes
 use Rattle.blocks.proofs.Laws as Laws
 use Rattle.blocks.proofs.Steps as Steps
 use Rattle.blocks.proofs.Guards as Guards
-use Rattle.apply.proofs.Tests.{is-none-eq}
+use Rattle.rules.proofs.Tests.{is-none-eq}
 use Rattle.walk.specs.Ready as Ready
 use Rattle.walk.proofs.Cycle as Cycle
 use borrow.Author.Needs.{needs}
@@ -54,7 +53,7 @@ use Rattle.walk.proofs.+block_at+if_at+interp_region+last_pass+loop_at+
 use Rattle.walk.proofs.two_arms.Reads as two-arms
 use Rattle.walk.proofs.two_arms.Kinds as two-arms-kinds
 use Rattle.walk.proofs.+block_at+if_at+interp_region+last_pass+loop_at+one_arm+passes_at+two_arms.Lts-two_arms as two-arms-lts
-use Rattle.apply.proofs.Verdict.passed.Reads as passed-reads
+use Rattle.answer.proofs.Verdict.passed.Reads as passed-reads
 use Rattle.blocks.proofs.guard_at.Reads as guard-at-reads
 use Rattle.blocks.proofs.invalidate_written_locals.Reads as invalidate-written-locals-reads
 use Rattle.blocks.proofs.join_ends.Reads as join-ends-reads
@@ -746,7 +745,7 @@ interp-region-returns : (t : ℕ) → interp-region-lts.Need-returns (
   block-at-below t,
   block-at.Post,
 ) (interp-region-at t) interp-region.Post interp-region-Inv-loop interp-region-μ-loop
-interp-region-returns t c = (c .before .before .before .before .before .before .step .ensures .0, c .before .before .before .before .before .before .before .before .before .before .before .before .before .before .before .loop .inv .1, Cycle.walking-refused (c .before .before .before .before .before .before .before .before .before .before .before .before .before .before .before .before .before .before .before .args .t .now) (c .before .before .before .before .before .before .before .before .before .before .before .before .before .before .before .before .before .before .before .args .heights .now) (c .before .before .before .before .before .before .before .before .before .before .before .before .before .before .before .before .before .before .before .args .blinds .now) (c .before .before .before .before .before .before .before .before .before .before .before .before .before .before .before .before .before .before .before .args .x) (c .before .before .before .before .before .before .before .before .before .before .before .before .before .before .before .before .before .before .before .args .start) (c .before .before .before .before .before .before .before .before .before .before .before .before .before .before .before .before .before .before .before .args .end) (c .before .before .before .before .before .before .before .before .before .before .before .before .before .before .before .before .before .before .before .args .floor) (at (c .before .before .before .before .before .before .before .before .before .before .before .before .before .before .before .before .before .before .before .args .height) (c .before .before .before .before .before .before .before .before .before .before .before .before .before .before .before .before .before .before .before .args .slots .now) (c .before .before .before .before .before .before .before .before .before .before .before .before .before .before .before .before .before .before .before .args .places .now)) (breaksIn (c .before .before .before .before .before .before .before .before .before .before .before .before .before .before .before .before .before .before .before .args .b) (c .before .before .before .before .before .before .before .before .before .before .before .before .before .before .before .before .before .before .before .args .broken .now) (c .before .before .before .before .before .before .before .before .before .before .before .before .before .before .before .before .before .before .before .args .held .now)) (c .before .before .before .before .before .before .before .before .before .before .before .before .before .before .before .loop .heights) (c .before .before .before .before .before .before .before .before .before .before .before .before .before .before .before .loop .blinds) (c .before .before .before .before .before .before .before .before .before .before .before .before .before .before .before .loop .ip) (at (c .before .before .before .before .before .before .before .before .before .before .before .before .before .before .before .loop .h) (c .before .before .before .before .before .before .before .before .before .before .before .before .before .before .before .loop .slots) (c .before .before .before .before .before .before .before .before .before .before .before .before .before .before .before .loop .places)) (breaksIn (c .before .before .before .before .before .before .before .before .before .before .before .before .before .before .before .loop .k) (c .before .before .before .before .before .before .before .before .before .before .before .before .before .before .before .loop .broken) (c .before .before .before .before .before .before .before .before .before .before .before .before .before .before .before .loop .held)) (c .before .before .before .before .before .before .before .before .before .before .before .before .before .before .before .loop .inv .2) (c .before .before .before .before .before .before .step .result) _ _ _ (c .before .before .before .before .before .before .step .ensures .1) (sym (c .before .passed .ensures) ∙ c .if2 .left) (record { flow = Refused (Instruction (c .before .before .before .before .before .before .step .result .verdict)); state = at (c .before .before .before .before .before .before .before .before .before .before .before .before .before .before .before .loop .h) (c .before .before .before .before .before .before .step .last .1 .1 .1 .0) (c .before .before .before .before .before .before .step .last .1 .1 .1 .1 .0); breaks = breaksIn (c .before .before .before .before .before .before .before .before .before .before .before .before .before .before .before .loop .k) (c .before .before .before .before .before .before .before .before .before .before .before .before .before .before .before .loop .broken) (c .before .before .before .before .before .before .before .before .before .before .before .before .before .before .before .loop .held) }) _ refl, ((c .before .before .before .before .before .before .before .before .before .before .before .before .before .before .before .loop .inv .2) .ready .height-low, (c .before .before .before .before .before .before .before .before .before .before .before .before .before .before .before .loop .inv .2) .ready .breaks-low))
+interp-region-returns t c = (c .before .before .before .before .before .before .step .ensures .0, c .before .before .before .before .before .before .before .before .before .before .before .before .before .before .before .loop .inv .1, Cycle.walking-refused (c .before .before .before .before .before .before .before .before .before .before .before .before .before .before .before .before .before .before .before .args .t .now) (c .before .before .before .before .before .before .before .before .before .before .before .before .before .before .before .before .before .before .before .args .heights .now) (c .before .before .before .before .before .before .before .before .before .before .before .before .before .before .before .before .before .before .before .args .blinds .now) (c .before .before .before .before .before .before .before .before .before .before .before .before .before .before .before .before .before .before .before .args .x) (c .before .before .before .before .before .before .before .before .before .before .before .before .before .before .before .before .before .before .before .args .start) (c .before .before .before .before .before .before .before .before .before .before .before .before .before .before .before .before .before .before .before .args .end) (c .before .before .before .before .before .before .before .before .before .before .before .before .before .before .before .before .before .before .before .args .floor) (at (c .before .before .before .before .before .before .before .before .before .before .before .before .before .before .before .before .before .before .before .args .height) (c .before .before .before .before .before .before .before .before .before .before .before .before .before .before .before .before .before .before .before .args .slots .now) (c .before .before .before .before .before .before .before .before .before .before .before .before .before .before .before .before .before .before .before .args .places .now)) (breaksIn (c .before .before .before .before .before .before .before .before .before .before .before .before .before .before .before .before .before .before .before .args .b) (c .before .before .before .before .before .before .before .before .before .before .before .before .before .before .before .before .before .before .before .args .broken .now) (c .before .before .before .before .before .before .before .before .before .before .before .before .before .before .before .before .before .before .before .args .held .now)) (c .before .before .before .before .before .before .before .before .before .before .before .before .before .before .before .loop .heights) (c .before .before .before .before .before .before .before .before .before .before .before .before .before .before .before .loop .blinds) (c .before .before .before .before .before .before .before .before .before .before .before .before .before .before .before .loop .ip) (at (c .before .before .before .before .before .before .before .before .before .before .before .before .before .before .before .loop .h) (c .before .before .before .before .before .before .before .before .before .before .before .before .before .before .before .loop .slots) (c .before .before .before .before .before .before .before .before .before .before .before .before .before .before .before .loop .places)) (breaksIn (c .before .before .before .before .before .before .before .before .before .before .before .before .before .before .before .loop .k) (c .before .before .before .before .before .before .before .before .before .before .before .before .before .before .before .loop .broken) (c .before .before .before .before .before .before .before .before .before .before .before .before .before .before .before .loop .held)) (c .before .before .before .before .before .before .before .before .before .before .before .before .before .before .before .loop .inv .2) (c .before .before .before .before .before .before .step .result) _ _ _ (c .before .before .before .before .before .before .step .ensures .1) (sym (c .before .passed .ensures) ∙ c .if2 .left) (record { flow = Refused (c .before .before .before .before .before .before .step .result .verdict); state = at (c .before .before .before .before .before .before .before .before .before .before .before .before .before .before .before .loop .h) (c .before .before .before .before .before .before .step .last .1 .1 .1 .0) (c .before .before .before .before .before .before .step .last .1 .1 .1 .1 .0); breaks = breaksIn (c .before .before .before .before .before .before .before .before .before .before .before .before .before .before .before .loop .k) (c .before .before .before .before .before .before .before .before .before .before .before .before .before .before .before .loop .broken) (c .before .before .before .before .before .before .before .before .before .before .before .before .before .before .before .loop .held) }) _ refl, ((c .before .before .before .before .before .before .before .before .before .before .before .before .before .before .before .loop .inv .2) .ready .height-low, (c .before .before .before .before .before .before .before .before .before .before .before .before .before .before .before .loop .inv .2) .ready .breaks-low))
 
 -- src/lib.rt:54:5
 interp-region-loop-less : (t : ℕ) → interp-region-lts.Need-loop-less (

@@ -8,7 +8,7 @@ use Rattle.walk.proofs.walk_chunk.Statement.{statement}
 use Rattle.walk.proofs.walk_chunk.Tie as tie
 use Rattle.walk.proofs.walk_chunk.Reads as reads
 use Rattle.walk.proofs.walk_chunk.Lts as lts
-use Rattle.apply.proofs.context.Reads as context-reads
+use Rattle.rules.proofs.context.Reads as context-reads
 use Rattle.blocks.proofs.start_locals.Reads as start-locals-reads
 use Rattle.walk.proofs.interp_region.Reads as interp-region-reads
 

@@ -1,5 +1,5 @@
 use native.Mathlib.Omega.{arith}
-use Rattle.apply.proofs.Numbers.{locals-fit}
+use Rattle.rules.proofs.Numbers.{locals-fit}
 use borrow.Author.Needs.{needs}
 use Rattle.walk_cases.proofs.last_pass.Statement.{statement}
 use Rattle.walk_cases.proofs.last_pass.Tie as tie

@@ -1,7 +1,7 @@
 use mathlib.Core.Path.{_≡_, refl, sym, ap, _∙_}
 use native.Mathlib.Omega.{arith}
 use Rattle.bytecode.specs.Tables.{cap}
-use Rattle.nesting.specs.Answer.{numbers}
+use Rattle.answer.specs.Answer.{found}
 use Rattle.nesting.specs.Chunks.{fine}
 use borrow.Author.Needs.{needs}
 use Rattle.walk_cases.proofs.run.Statement.{statement}
@@ -22,7 +22,9 @@ check-nesting-requires c κs = search needs
 enum-told : tie.Need-enum-told
 enum-told c = search needs
 
--- src/main.rt:89:15
+enum-told-2 : tie.Need-enum-told-2
+enum-told-2 c = search needs
+
 slice-aggregate-print : tie.Need-slice-aggregate-print
 slice-aggregate-print c = search needs
 
@@ -65,8 +67,8 @@ slice-aggregate-show-walk-2 c = search needs
 
 -- src/main.rt:102:5
 show-walk-requires : tie.Need-show-walk-requires
-unfolding numbers
-show-walk-requires c κs = (record { low = omega arith; heights-long = omega (arith, c .before .before .before .before .before .instructions-of .ensures .first-is, c .before .before .before .before .before .instructions-of .ensures .count-is, c .before .before .before .if2 .left); blinds-long = omega (arith, c .before .before .before .before .before .instructions-of .ensures .first-is, c .before .before .before .before .before .instructions-of .ensures .count-is, c .before .before .before .if2 .left); nested = fine (c .before .before .before .before .before .before .before .before .before .before .before .before .before .before .args .t .now) (sym (c .before .before .before .before .before .before .before .before .before .before .before .before .check-nesting .ensures) ∙ ap numbers (c .before .before .before .before .before .before .before .before .before .before .enum-told .given .1)) 0 (omega (arith, c .before .before .before .before .before .before .before .before .count .ensures, c .before .before .before .before .before .before .before .if1 .left)) .nested }, (omega (arith, c .before .before .before .if2 .left), omega (arith, c .before .before .before .if2 .left)))
+unfolding found
+show-walk-requires c κs = (record { low = omega arith; heights-long = omega (arith, c .before .before .before .before .before .instructions-of .ensures .first-is, c .before .before .before .before .before .instructions-of .ensures .count-is, c .before .before .before .if2 .left); blinds-long = omega (arith, c .before .before .before .before .before .instructions-of .ensures .first-is, c .before .before .before .before .before .instructions-of .ensures .count-is, c .before .before .before .if2 .left); nested = fine (c .before .before .before .before .before .before .before .before .before .before .before .before .before .before .args .t .now) (sym (c .before .before .before .before .before .before .before .before .before .before .before .before .check-nesting .ensures) ∙ ap found (c .before .before .before .before .before .before .before .before .before .before .enum-told .given .1)) 0 (omega (arith, c .before .before .before .before .before .before .before .before .count .ensures, c .before .before .before .before .before .before .before .if1 .left)) .nested }, (omega (arith, c .before .before .before .if2 .left), omega (arith, c .before .before .before .if2 .left)))
 
 -- src/main.rt:105:18
 slice-aggregate-show-last : tie.Need-slice-aggregate-show-last
@@ -78,8 +80,8 @@ slice-aggregate-show-last-2 c = search needs
 
 -- src/main.rt:105:5
 show-last-requires : tie.Need-show-last-requires
-unfolding numbers
-show-last-requires c κs = (record { low = omega arith; heights-long = omega (arith, c .before .before .before .before .before .before .before .before .before .before .before .instructions-of .ensures .first-is, c .before .before .before .before .before .before .before .before .before .before .before .instructions-of .ensures .count-is, c .before .before .before .before .before .before .before .before .before .if2 .left); blinds-long = omega (arith, c .before .before .before .before .before .before .before .before .before .before .before .instructions-of .ensures .first-is, c .before .before .before .before .before .before .before .before .before .before .before .instructions-of .ensures .count-is, c .before .before .before .before .before .before .before .before .before .if2 .left); nested = fine (c .before .before .before .before .before .before .before .before .before .before .before .before .before .before .before .before .before .before .before .before .args .t .now) (sym (c .before .before .before .before .before .before .before .before .before .before .before .before .before .before .before .before .before .before .check-nesting .ensures) ∙ ap numbers (c .before .before .before .before .before .before .before .before .before .before .before .before .before .before .before .before .enum-told .given .1)) 0 (omega (arith, c .before .before .before .before .before .before .before .before .before .before .before .before .before .before .count .ensures, c .before .before .before .before .before .before .before .before .before .before .before .before .before .if1 .left)) .nested }, (omega (arith, c .before .before .before .before .before .before .before .before .before .if2 .left), omega (arith, c .before .before .before .before .before .before .before .before .before .if2 .left)))
+unfolding found
+show-last-requires c κs = (record { low = omega arith; heights-long = omega (arith, c .before .before .before .before .before .before .before .before .before .before .before .instructions-of .ensures .first-is, c .before .before .before .before .before .before .before .before .before .before .before .instructions-of .ensures .count-is, c .before .before .before .before .before .before .before .before .before .if2 .left); blinds-long = omega (arith, c .before .before .before .before .before .before .before .before .before .before .before .instructions-of .ensures .first-is, c .before .before .before .before .before .before .before .before .before .before .before .instructions-of .ensures .count-is, c .before .before .before .before .before .before .before .before .before .if2 .left); nested = fine (c .before .before .before .before .before .before .before .before .before .before .before .before .before .before .before .before .before .before .before .before .args .t .now) (sym (c .before .before .before .before .before .before .before .before .before .before .before .before .before .before .before .before .before .before .check-nesting .ensures) ∙ ap found (c .before .before .before .before .before .before .before .before .before .before .before .before .before .before .before .before .enum-told .given .1)) 0 (omega (arith, c .before .before .before .before .before .before .before .before .before .before .before .before .before .before .count .ensures, c .before .before .before .before .before .before .before .before .before .before .before .before .before .if1 .left)) .nested }, (omega (arith, c .before .before .before .before .before .before .before .before .before .if2 .left), omega (arith, c .before .before .before .before .before .before .before .before .before .if2 .left)))
 
 -- src/main.rt:86:1
 returns-4 : tie.Need-returns-4
@@ -91,6 +93,7 @@ run-spec =
     (tie.spec
     check-nesting-requires
     enum-told
+    enum-told-2
     slice-aggregate-print
     print-requires
     returns

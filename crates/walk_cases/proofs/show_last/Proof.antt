@@ -10,7 +10,7 @@ use Rattle.walk_cases.proofs.show_last.Statement.{statement}
 use Rattle.walk_cases.proofs.show_last.Tie as tie
 use Rattle.walk_cases.proofs.show_last.Reads as reads
 use Rattle.walk_cases.proofs.show_last.Lts as lts
-use Rattle.apply.proofs.context.Reads as context-reads
+use Rattle.rules.proofs.context.Reads as context-reads
 use Rattle.bytecode.proofs.instr_at.Reads as instr-at-reads
 use Rattle.walk_cases.proofs.last_pass.Reads as last-pass-reads
 use Rattle.walk_cases.proofs.print.Reads as print-reads

@@ -11,28 +11,22 @@ use Rattle.answer.proofs.Answer.numbers.Lts as lts
 use Rattle.answer.proofs.Refusal.numbers.Reads as numbers-reads
 use Rattle.answer.proofs.three.Reads as three-reads
 
--- src/lib.rt:132:30
 enum-known-self : tie.Need-enum-known-self
 enum-known-self c = search needs
 
--- src/lib.rt:132:55
 three-requires : tie.Need-three-requires
 three-requires c κs = search needs
 
--- src/lib.rt:133:29
 enum-known-self-2 : tie.Need-enum-known-self-2
 enum-known-self-2 c = search needs
 
--- src/lib.rt:133:35
 numbers-requires : tie.Need-numbers-requires
 numbers-requires c κs = search needs
 
--- src/lib.rt:128:5
 returns : tie.Need-returns
 unfolding values-of answerOf
 returns c = told (λ a. values-of (answerOf a)) _ _ _ (c .before .before .self .given .1) refl (c .three .ensures)
 
--- src/lib.rt:128:5
 returns-2 : tie.Need-returns-2
 unfolding values-of answerOf
 returns-2 c = told (λ a. values-of (answerOf a)) _ _ _ (c .before .before .self2 .given .1) refl (c .numbers .ensures)

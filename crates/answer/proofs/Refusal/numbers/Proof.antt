@@ -1,7 +1,7 @@
 -- `answer::Refusal::numbers` meets its contract. Assumes nothing.
 use mathlib.Core.Path.{refl}
-use Rattle.answer.specs.Answer.{numbers}
-use Rattle.answer.proofs.Laws.{told}
+use Rattle.answer.specs.Answer.{fields, with-chunk}
+use Rattle.answer.proofs.Laws.{told-in}
 use borrow.Author.Needs.{needs}
 use Rattle.answer.proofs.Refusal.numbers.Statement.{statement}
 use Rattle.answer.proofs.Refusal.numbers.Tie as tie
@@ -12,252 +12,195 @@ use Rattle.answer.proofs.four.Reads as four-reads
 use Rattle.answer.proofs.six.Reads as six-reads
 use Rattle.answer.proofs.three.Reads as three-reads
 
--- src/lib.rt:103:35
 enum-known-self : tie.Need-enum-known-self
 enum-known-self c = search needs
 
--- src/lib.rt:103:41
 three-requires : tie.Need-three-requires
 three-requires c κs = search needs
 
--- src/lib.rt:104:34
 enum-known-self-2 : tie.Need-enum-known-self-2
 enum-known-self-2 c = search needs
 
--- src/lib.rt:104:46
 four-requires : tie.Need-four-requires
 four-requires c κs = search needs
 
--- src/lib.rt:105:32
 enum-known-self-3 : tie.Need-enum-known-self-3
 enum-known-self-3 c = search needs
 
--- src/lib.rt:105:41
 three-requires-2 : tie.Need-three-requires-2
 three-requires-2 c κs = search needs
 
--- src/lib.rt:106:36
 enum-known-self-4 : tie.Need-enum-known-self-4
 enum-known-self-4 c = search needs
 
--- src/lib.rt:106:45
 four-requires-2 : tie.Need-four-requires-2
 four-requires-2 c κs = search needs
 
--- src/lib.rt:107:37
 enum-known-self-5 : tie.Need-enum-known-self-5
 enum-known-self-5 c = search needs
 
--- src/lib.rt:107:46
 three-requires-3 : tie.Need-three-requires-3
 three-requires-3 c κs = search needs
 
--- src/lib.rt:108:40
 enum-known-self-6 : tie.Need-enum-known-self-6
 enum-known-self-6 c = search needs
 
--- src/lib.rt:108:58
 six-requires : tie.Need-six-requires
 six-requires c κs = search needs
 
--- src/lib.rt:109:40
 enum-known-self-7 : tie.Need-enum-known-self-7
 enum-known-self-7 c = search needs
 
--- src/lib.rt:109:49
 three-requires-4 : tie.Need-three-requires-4
 three-requires-4 c κs = search needs
 
--- src/lib.rt:110:47
 enum-known-self-8 : tie.Need-enum-known-self-8
 enum-known-self-8 c = search needs
 
--- src/lib.rt:110:62
 five-requires : tie.Need-five-requires
 five-requires c κs = search needs
 
--- src/lib.rt:111:40
 enum-known-self-9 : tie.Need-enum-known-self-9
 enum-known-self-9 c = search needs
 
--- src/lib.rt:111:52
 four-requires-3 : tie.Need-four-requires-3
 four-requires-3 c κs = search needs
 
--- src/lib.rt:112:43
 enum-known-self-10 : tie.Need-enum-known-self-10
 enum-known-self-10 c = search needs
 
--- src/lib.rt:112:58
 five-requires-2 : tie.Need-five-requires-2
 five-requires-2 c κs = search needs
 
--- src/lib.rt:113:37
 enum-known-self-11 : tie.Need-enum-known-self-11
 enum-known-self-11 c = search needs
 
--- src/lib.rt:113:52
 five-requires-3 : tie.Need-five-requires-3
 five-requires-3 c κs = search needs
 
--- src/lib.rt:114:38
 enum-known-self-12 : tie.Need-enum-known-self-12
 enum-known-self-12 c = search needs
 
--- src/lib.rt:114:56
 six-requires-2 : tie.Need-six-requires-2
 six-requires-2 c κs = search needs
 
--- src/lib.rt:115:40
 enum-known-self-13 : tie.Need-enum-known-self-13
 enum-known-self-13 c = search needs
 
--- src/lib.rt:115:52
 four-requires-4 : tie.Need-four-requires-4
 four-requires-4 c κs = search needs
 
--- src/lib.rt:116:38
 enum-known-self-14 : tie.Need-enum-known-self-14
 enum-known-self-14 c = search needs
 
--- src/lib.rt:116:53
 five-requires-4 : tie.Need-five-requires-4
 five-requires-4 c κs = search needs
 
--- src/lib.rt:117:42
 enum-known-self-15 : tie.Need-enum-known-self-15
 enum-known-self-15 c = search needs
 
--- src/lib.rt:117:57
 five-requires-5 : tie.Need-five-requires-5
 five-requires-5 c κs = search needs
 
--- src/lib.rt:118:44
 enum-known-self-16 : tie.Need-enum-known-self-16
 enum-known-self-16 c = search needs
 
--- src/lib.rt:118:59
 six-requires-3 : tie.Need-six-requires-3
 six-requires-3 c κs = search needs
 
--- src/lib.rt:119:43
 enum-known-self-17 : tie.Need-enum-known-self-17
 enum-known-self-17 c = search needs
 
--- src/lib.rt:119:55
 four-requires-5 : tie.Need-four-requires-5
 four-requires-5 c κs = search needs
 
--- src/lib.rt:120:52
 enum-known-self-18 : tie.Need-enum-known-self-18
 enum-known-self-18 c = search needs
 
--- src/lib.rt:120:64
 five-requires-6 : tie.Need-five-requires-6
 five-requires-6 c κs = search needs
 
--- src/lib.rt:121:48
 enum-known-self-19 : tie.Need-enum-known-self-19
 enum-known-self-19 c = search needs
 
--- src/lib.rt:121:60
 five-requires-7 : tie.Need-five-requires-7
 five-requires-7 c κs = search needs
 
--- src/lib.rt:99:5
 returns : tie.Need-returns
-unfolding numbers
-returns c = told numbers _ _ _ (c .before .before .self .given .1) refl (c .three .ensures)
+unfolding fields with-chunk
+returns c = told-in _ _ _ _ (c .before .before .self .given .1) refl (c .three .ensures)
 
--- src/lib.rt:99:5
 returns-2 : tie.Need-returns-2
-unfolding numbers
-returns-2 c = told numbers _ _ _ (c .before .before .self2 .given .1) refl (c .four .ensures)
+unfolding fields with-chunk
+returns-2 c = told-in _ _ _ _ (c .before .before .self2 .given .1) refl (c .four .ensures)
 
--- src/lib.rt:99:5
 returns-3 : tie.Need-returns-3
-unfolding numbers
-returns-3 c = told numbers _ _ _ (c .before .before .self3 .given .1) refl (c .three2 .ensures)
+unfolding fields with-chunk
+returns-3 c = told-in _ _ _ _ (c .before .before .self3 .given .1) refl (c .three2 .ensures)
 
--- src/lib.rt:99:5
 returns-4 : tie.Need-returns-4
-unfolding numbers
-returns-4 c = told numbers _ _ _ (c .before .before .self4 .given .1) refl (c .four2 .ensures)
+unfolding fields with-chunk
+returns-4 c = told-in _ _ _ _ (c .before .before .self4 .given .1) refl (c .four2 .ensures)
 
--- src/lib.rt:99:5
 returns-5 : tie.Need-returns-5
-unfolding numbers
-returns-5 c = told numbers _ _ _ (c .before .before .self5 .given .1) refl (c .three3 .ensures)
+unfolding fields with-chunk
+returns-5 c = told-in _ _ _ _ (c .before .before .self5 .given .1) refl (c .three3 .ensures)
 
--- src/lib.rt:99:5
 returns-6 : tie.Need-returns-6
-unfolding numbers
-returns-6 c = told numbers _ _ _ (c .before .before .self6 .given .1) refl (c .six .ensures)
+unfolding fields with-chunk
+returns-6 c = told-in _ _ _ _ (c .before .before .self6 .given .1) refl (c .six .ensures)
 
--- src/lib.rt:99:5
 returns-7 : tie.Need-returns-7
-unfolding numbers
-returns-7 c = told numbers _ _ _ (c .before .before .self7 .given .1) refl (c .three4 .ensures)
+unfolding fields with-chunk
+returns-7 c = told-in _ _ _ _ (c .before .before .self7 .given .1) refl (c .three4 .ensures)
 
--- src/lib.rt:99:5
 returns-8 : tie.Need-returns-8
-unfolding numbers
-returns-8 c = told numbers _ _ _ (c .before .before .self8 .given .1) refl (c .five .ensures)
+unfolding fields with-chunk
+returns-8 c = told-in _ _ _ _ (c .before .before .self8 .given .1) refl (c .five .ensures)
 
--- src/lib.rt:99:5
 returns-9 : tie.Need-returns-9
-unfolding numbers
-returns-9 c = told numbers _ _ _ (c .before .before .self9 .given .1) refl (c .four3 .ensures)
+unfolding fields with-chunk
+returns-9 c = told-in _ _ _ _ (c .before .before .self9 .given .1) refl (c .four3 .ensures)
 
--- src/lib.rt:99:5
 returns-10 : tie.Need-returns-10
-unfolding numbers
-returns-10 c = told numbers _ _ _ (c .before .before .self10 .given .1) refl (c .five2 .ensures)
+unfolding fields with-chunk
+returns-10 c = told-in _ _ _ _ (c .before .before .self10 .given .1) refl (c .five2 .ensures)
 
--- src/lib.rt:99:5
 returns-11 : tie.Need-returns-11
-unfolding numbers
-returns-11 c = told numbers _ _ _ (c .before .before .self11 .given .1) refl (c .five3 .ensures)
+unfolding fields with-chunk
+returns-11 c = told-in _ _ _ _ (c .before .before .self11 .given .1) refl (c .five3 .ensures)
 
--- src/lib.rt:99:5
 returns-12 : tie.Need-returns-12
-unfolding numbers
-returns-12 c = told numbers _ _ _ (c .before .before .self12 .given .1) refl (c .six2 .ensures)
+unfolding fields with-chunk
+returns-12 c = told-in _ _ _ _ (c .before .before .self12 .given .1) refl (c .six2 .ensures)
 
--- src/lib.rt:99:5
 returns-13 : tie.Need-returns-13
-unfolding numbers
-returns-13 c = told numbers _ _ _ (c .before .before .self13 .given .1) refl (c .four4 .ensures)
+unfolding fields with-chunk
+returns-13 c = told-in _ _ _ _ (c .before .before .self13 .given .1) refl (c .four4 .ensures)
 
--- src/lib.rt:99:5
 returns-14 : tie.Need-returns-14
-unfolding numbers
-returns-14 c = told numbers _ _ _ (c .before .before .self14 .given .1) refl (c .five4 .ensures)
+unfolding fields with-chunk
+returns-14 c = told-in _ _ _ _ (c .before .before .self14 .given .1) refl (c .five4 .ensures)
 
--- src/lib.rt:99:5
 returns-15 : tie.Need-returns-15
-unfolding numbers
-returns-15 c = told numbers _ _ _ (c .before .before .self15 .given .1) refl (c .five5 .ensures)
+unfolding fields with-chunk
+returns-15 c = told-in _ _ _ _ (c .before .before .self15 .given .1) refl (c .five5 .ensures)
 
--- src/lib.rt:99:5
 returns-16 : tie.Need-returns-16
-unfolding numbers
-returns-16 c = told numbers _ _ _ (c .before .before .self16 .given .1) refl (c .six3 .ensures)
+unfolding fields with-chunk
+returns-16 c = told-in _ _ _ _ (c .before .before .self16 .given .1) refl (c .six3 .ensures)
 
--- src/lib.rt:99:5
 returns-17 : tie.Need-returns-17
-unfolding numbers
-returns-17 c = told numbers _ _ _ (c .before .before .self17 .given .1) refl (c .four5 .ensures)
+unfolding fields with-chunk
+returns-17 c = told-in _ _ _ _ (c .before .before .self17 .given .1) refl (c .four5 .ensures)
 
--- src/lib.rt:99:5
 returns-18 : tie.Need-returns-18
-unfolding numbers
-returns-18 c = told numbers _ _ _ (c .before .before .self18 .given .1) refl (c .five6 .ensures)
+unfolding fields with-chunk
+returns-18 c = told-in _ _ _ _ (c .before .before .self18 .given .1) refl (c .five6 .ensures)
 
--- src/lib.rt:99:5
 returns-19 : tie.Need-returns-19
-unfolding numbers
-returns-19 c = told numbers _ _ _ (c .before .before .self19 .given .1) refl (c .five7 .ensures)
+unfolding fields with-chunk
+returns-19 c = told-in _ _ _ _ (c .before .before .self19 .given .1) refl (c .five7 .ensures)
 
 pub numbers-spec : {M : Type 1} → statement M
 numbers-spec =

@@ -7,7 +7,7 @@ use Rattle.bytecode.proofs.ops.pack.Statement.{statement}
 use Rattle.bytecode.proofs.ops.pack.Tie as tie
 use Rattle.bytecode.proofs.ops.pack.Reads as reads
 use Rattle.bytecode.proofs.ops.pack.Lts as lts
-use Rattle.bytecode.proofs.ops.least.Reads as least-reads
+use Rattle.bytecode.proofs.least.Reads as least-reads
 use Rattle.bytecode.proofs.ops.wide.Reads as wide-reads
 use borrow.Author.Needs.{needs}
 use native.Mathlib.Omega.{arith}
