@@ -322,13 +322,13 @@ fn apply_op(
     }
     let r = rule_of(t, slots, places, x, i, e, height, ip);
     let verdict = rules::check_room(r, height, ip);
-    if verdict.passed() {} else {
+    let Verdict::Passed = verdict else {
         return Step {
             verdict: verdict,
             blind: r.blind,
             height: height,
         };
-    }
+    };
     let v = r.value;
     let take = r.take;
     let times = rules::count(r.times);

@@ -1,4 +1,5 @@
 // Reads a listing into the tables, line by line, each by the first of the line forms that takes it whole.
+use answer::limit;
 use bytecode::ops;
 use bytecode::ops::Found;
 ghost use mathlib.Core.Path.{_≡_};
@@ -77,10 +78,10 @@ fn wide(x: u8) -> u64
 fn digit(b: u8) -> bool
     ensures { λ r. ⌜ r ≡ is-digit b ⌝ }
 {
-    if b < 48 {
+    if b < b'0' {
         return false;
     }
-    b <= 57
+    b <= b'9'
 }
 
 fn digit_at(s: &[u8], i: usize) -> bool
@@ -100,7 +101,7 @@ fn number_begins(s: &[u8], i: usize) -> bool
         return false;
     }
     let b = s[i];
-    if b == 48 {
+    if b == b'0' {
         return !digit_at(s, i + 1);
     }
     digit(b)
@@ -117,6 +118,11 @@ fn fit(n: u64, i: usize) -> Num
     }
 }
 
+// The first digit and the last.
+const ZERO: u64 = 48;
+
+const NINE: u64 = 57;
+
 // The number that the digits from `at` on give, if it has at most 32 bits, and where they end.
 fn digits(s: &[u8], at: usize) -> Num
     requires { ⌜ at ≤ length (now s) ⌝ }
@@ -126,16 +132,16 @@ fn digits(s: &[u8], at: usize) -> Num
     let mut i = at;
     while i < s.len() {
         let b = wide(s[i]);
-        if b < 48 {
+        if b < ZERO {
             return fit(n, i);
         }
-        if 57 < b {
+        if NINE < b {
             return fit(n, i);
         }
         if 4294967295 < n {
             return Num::Bad;
         }
-        n = n * 10 + (b - 48);
+        n = n * 10 + (b - ZERO);
         i += 1;
     }
     fit(n, i)
@@ -197,7 +203,7 @@ fn number(s: &[u8], i: usize, c: u8) -> Num
     if s.len() <= i {
         return Num::Bad;
     }
-    if s[i] != 32 {
+    if s[i] != b' ' {
         return Num::Bad;
     }
     let at = i + 1;
@@ -329,7 +335,7 @@ fn over(s: &[u8], i: usize, c: u8) -> bool
         return false;
     }
     if i < s.len() {
-        return s[i] != 32;
+        return s[i] != b' ';
     }
     true
 }
@@ -376,7 +382,7 @@ fn scan(table: &[u8; 176], s: &[u8], f: usize) -> Row
     let mut j = f * 16;
     while j < 176 {
         let c = format_at(table, j);
-        if c == 10 {
+        if c == b'\n' {
             break;
         }
         if c < sort::BITS_8 {
@@ -464,10 +470,10 @@ fn name_ends(s: &[u8], i: usize) -> bool
         return true;
     }
     let b = s[i];
-    if b == 41 {
+    if b == b')' {
         return true;
     }
-    if b == 32 {
+    if b == b' ' {
         return digit_at(s, i + 1);
     }
     false
@@ -541,7 +547,7 @@ fn closes(s: &[u8], i: usize, ok: bool) -> bool
     if s.len() <= i {
         return false;
     }
-    if s[i] != 41 {
+    if s[i] != b')' {
         return false;
     }
     s.len() == i + 1
@@ -711,7 +717,10 @@ fn may_stand(place: u64, e: Entry) -> bool
     false
 }
 
-// The limit that a line meets by itself: 2 for a signature of more than 16 parameters, 3 for LOCALS over 32; else 0.
+// No limit has this number.
+const NO_LIMIT: u64 = 0;
+
+// The limit that a line meets by itself: a signature of more than 16 parameters, or LOCALS over 32.
 fn own_limit(e: Entry) -> u64
     ensures { λ r. ⌜ ((vs : List ℕ) → Stored (e .vals) (e .count) vs → own-limit (e .form) vs ≡ limit-of r) × (r ≤ 3) × (r ≡ 1 → ⊥) ⌝ }
 {
@@ -720,16 +729,16 @@ fn own_limit(e: Entry) -> u64
     let n = e.count;
     if form == form::SIGNATURE {
         if 18 < n {
-            return 2;
+            return limit::TABLE;
         }
-        return 0;
+        return NO_LIMIT;
     }
     if form == form::CHUNK {
         if 32 < vals[1] {
-            return 3;
+            return limit::LOCALS;
         }
     }
-    0
+    NO_LIMIT
 }
 
 fn wide_size(x: usize) -> u64
@@ -789,10 +798,10 @@ fn one_line(names: &[u64; 781], t: &mut [u64], place: u64, s: &[u8]) -> Step
         return Step::Full;
     }
     let own = own_limit(e);
-    if own == 2 {
+    if own == limit::TABLE {
         return Step::Full;
     }
-    if own == 3 {
+    if own == limit::LOCALS {
         return Step::Locals;
     }
     let row = row_words(e, t[bytecode::CONSTANTS], t[bytecode::INSTRUCTIONS]);
@@ -807,7 +816,7 @@ fn line_end(s: &[u8], at: usize) -> usize
 {
     let mut i = at;
     while i < s.len() {
-        if s[i] == 10 {
+        if s[i] == b'\n' {
             return i;
         }
         i += 1;
@@ -839,7 +848,7 @@ fn read_lines(names: &[u64; 781], s: &[u8], t: &mut [u64]) -> Reading
     requires { ⌜ (length (now s) ≤ 65536) × Held (now t) (lists at-start) × (now names ≡ name-table) ⌝ }
     ensures { λ r. ⌜ Read-is (read-all (now (s .entry))) r (now (t .exit)) ⌝ }
 {
-    let mut place: u64 = 0;
+    let mut place: u64 = place::START;
     let mut lines: u64 = 0;
     let mut at = 0;
     while at < s.len() {
@@ -858,10 +867,10 @@ fn read_lines(names: &[u64; 781], s: &[u8], t: &mut [u64]) -> Reading
                 return Reading::Line(lines);
             }
             Step::Full => {
-                return Reading::Limit(2);
+                return Reading::Limit(limit::TABLE);
             }
             Step::Locals => {
-                return Reading::Limit(3);
+                return Reading::Limit(limit::LOCALS);
             }
         }
     }
@@ -876,7 +885,7 @@ pub fn read(s: &[u8], t: &mut [u64; 22232]) -> Reading
     ensures { λ r. ⌜ (read-listing (now (s .entry)) ≡ result-of r (now (t .exit))) × Left-in r (now (t .exit)) ⌝ }
 {
     if 65536 < s.len() {
-        return Reading::Limit(1);
+        return Reading::Limit(limit::BYTES);
     }
     clear(t);
     let names = ops::names();

@@ -575,9 +575,9 @@ pub fn check_room(r: Rule, height: usize, ip: usize) -> Verdict
     ensures { λ q. ⌜ Roomed r height ip q ⌝ }
 {
     let verdict = r.verdict;
-    if verdict.passed() {} else {
+    let Verdict::Passed = verdict else {
         return verdict;
-    }
+    };
     let take = r.take;
     let times = count(r.times);
     let ints = count(r.ints);
@@ -675,9 +675,9 @@ pub fn check_need(height: usize, need: usize, floor: usize, ip: usize) -> Verdic
     ensures { λ r. ⌜ (refusal r ≡ first (floor-test ip floor height need) (need-test ip height need)) × (refusal r ≡ none → need ≤ height) ⌝ }
 {
     let verdict = check_floor(height, need, floor, ip);
-    if verdict.passed() {} else {
+    let Verdict::Passed = verdict else {
         return verdict;
-    }
+    };
     if height < need {
         return Verdict::Refused(Refusal::StackUnderflow(ip as u64));
     }

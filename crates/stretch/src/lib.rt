@@ -74,13 +74,13 @@ pub fn stretch(
         }
         let e = apply::examine(t, slots, places, x, i, ip, floor, h);
         let v = e.verdict;
-        if v.passed() {} else {
+        let Verdict::Passed = v else {
             return Ran {
                 verdict: v,
                 next: ip,
                 height: e.height,
             };
-        }
+        };
         mark(heights, blinds, first + ip, h, e.blind);
         h = e.height;
         ip += 1;

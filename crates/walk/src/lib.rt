@@ -59,13 +59,13 @@ fn interp_region(
         if stretch::is_straight(code) {
             let e = stretch::step(t, heights, blinds, slots, places, x, ip, end, floor, h);
             let v = e.verdict;
-            if v.passed() {} else {
+            let Verdict::Passed = v else {
                 return Outcome {
                     flow: Flow::Refused(v),
                     height: h,
                     breaks: k,
                 };
-            }
+            };
             h = e.height;
             ip = e.next;
         } else {
@@ -221,9 +221,9 @@ fn if_at(
     ensures { λ r. ⌜ Long (now (slots .exit)) (now (places .exit)) × Long (now (broken .exit)) (now (held .exit)) × (restOf (chunkIn (now (t .entry)) x) (x .locals) end floor (onwardIn r (now (slots .exit)) (now (places .exit)) (now (broken .exit)) (now (held .exit))) (sheetsOf (now (heights .exit)) (now (blinds .exit))) ≡ visitIn (now (t .entry)) x ip end floor (at height (now (slots .entry)) (now (places .entry))) (breaksIn b (now (broken .entry)) (now (held .entry))) (sheetsOf (now (heights .entry)) (now (blinds .entry))) (ifTo target)) × Goes ip end r ⌝ }
 {
     let v = blocks::guard_at(heights, x, 1, ip, floor, height);
-    if v.passed() {} else {
+    let Verdict::Passed = v else {
         return blocks::refused_at(v, ip, height, b);
-    }
+    };
     let l = blocks::layout_of(t, x, ip, target);
     match l {
         Layout::OneArm => {

@@ -1,29 +1,31 @@
--- `typed_check::clear` meets its contract. Assumes nothing.
-use mathlib.Core.Path.{_≡_, refl, sym, ap, _∙_}
+-- `typed_check::clear` meets its contract. Zeros are written over the first i entries. Assumes nothing.
+use mathlib.Core.Path.{_≡_, sym, ap, _∙_}
 use Prim.Native.Nat.{_-_, _≤_}
 use native.Mathlib.Omega.{arith}
-use native.Mathlib.Numerals.{add-one}
 use borrow.Author.Needs.{needs}
 use lib.ListN.{length, set}
-use Rattle.typed_check.proofs.Laws.{cleared, cleared-more, cleared-all, cleared-long}
+use lib.Seq.{paste-zero}
+use Rattle.typed_check.proofs.Laws.{over, over-more, over-all, over-long, zeros, zeros-length, zero-at}
 use Rattle.typed_check.proofs.clear.Statement.{statement}
 use Rattle.typed_check.proofs.clear.Tie as tie
 use Rattle.typed_check.proofs.clear.Reads as reads
 use Rattle.typed_check.proofs.clear.Lts as lts
 
 abbrev Inv-loop : tie.InvT-loop
-Inv-loop sheet₀ n i₀ sheet i = (i ≤ length sheet₀) × (sheet ≡ cleared i sheet₀)
+Inv-loop sheet₀ n i₀ sheet i = (i ≤ length sheet₀) × (sheet ≡ over sheet₀ (zeros (length sheet₀)) i)
 
 abbrev μ-loop : tie.MeasureT-loop
 μ-loop sheet₀ n i₀ sheet i = n - i
 
 -- src/lib.rt:224:5
 loop-holds : tie.Need-loop-holds Inv-loop μ-loop
-loop-holds c = (omega arith, refl)
+loop-holds c = (omega arith, paste-zero (c .args .sheet .now) 0 (zeros (length (c .args .sheet .now))))
 
 -- src/lib.rt:225:9
 slice-write-sheet : tie.Need-slice-write-sheet Inv-loop μ-loop
-slice-write-sheet c = omega (arith, c .loop-test .taken, ap length (c .before .loop .inv .1), cleared-long (c .before .loop .i) (c .before .before .args .sheet .now) (c .before .loop .inv .0))
+slice-write-sheet c =
+    let d = c .before .before .args .sheet .now in
+    omega (arith, c .loop-test .taken, ap length (c .before .loop .inv .1), over-long d (zeros (length d)) (zeros-length (length d)) (c .before .loop .i) (c .before .loop .inv .0))
 
 -- src/lib.rt:226:9
 add-i : tie.Need-add-i Inv-loop μ-loop
@@ -35,23 +37,26 @@ loop-less c = omega (arith, c .loop-test .taken)
 
 -- src/lib.rt:224:5
 loop-again : tie.Need-loop-again Inv-loop μ-loop
-loop-again c = (
-  omega (arith, c .loop-test .taken),
-  ap (λ z. set z (c .before .loop .i) 0) (c .before .loop .inv .1)
-      ∙ cleared-more (c .before .loop .i) (c .before .before .args .sheet .now) (c .loop-test .taken)
-      ∙ ap (λ k. cleared k (c .before .before .args .sheet .now)) (sym (add-one (c .before .loop .i))),
-)
+loop-again c =
+    let d = c .before .before .args .sheet .now in
+    let i = c .before .loop .i in (
+      omega (arith, c .loop-test .taken),
+      ap (λ z. set z i 0) (c .before .loop .inv .1)
+          ∙ ap (set (over d (zeros (length d)) i) i) (zero-at (length d) i)
+          ∙ over-more d (zeros (length d)) (zeros-length (length d)) i (c .loop-test .taken),
+    )
 
 -- src/lib.rt:219:1
 same-length : tie.Need-same-length Inv-loop μ-loop
-same-length c = ap length (c .before .loop .inv .1) ∙ cleared-long (c .before .loop .i) (c .before .before .args .sheet .now) (c .before .loop .inv .0)
+same-length c =
+    let d = c .before .before .args .sheet .now in
+    ap length (c .before .loop .inv .1) ∙ over-long d (zeros (length d)) (zeros-length (length d)) (c .before .loop .i) (c .before .loop .inv .0)
 
 -- src/lib.rt:219:1
 returns : tie.Need-returns Inv-loop μ-loop
 returns c =
-    c .before .loop .inv .1
-    ∙ ap (λ k. cleared k (c .before .before .args .sheet .now)) (let e : c .before .loop .i ≡ length (c .before .before .args .sheet .now) = omega (arith, c .loop-test .left, c .before .loop .inv .0) in e)
-    ∙ cleared-all (c .before .before .args .sheet .now)
+    let d = c .before .before .args .sheet .now in
+    c .before .loop .inv .1 ∙ over-all d (zeros (length d)) (zeros-length (length d)) (c .before .loop .i) (omega (arith, c .loop-test .left, c .before .loop .inv .0))
 
 pub clear-spec : {M : Type 1} → statement M
 clear-spec =

@@ -23,6 +23,7 @@ use Rattle.blocks.proofs.Laws as Laws
 use Rattle.blocks.proofs.Steps as Steps
 use Rattle.blocks.proofs.Guards as Guards
 use Rattle.rules.proofs.Tests.{is-none-eq}
+use Rattle.answer.proofs.Laws.{passed-yes, passed-no}
 use Rattle.walk.specs.Ready as Ready
 use Rattle.walk.proofs.Cycle as Cycle
 use borrow.Author.Needs.{needs}
@@ -53,7 +54,6 @@ use Rattle.walk.proofs.+block_at+if_at+interp_region+last_pass+loop_at+
 use Rattle.walk.proofs.two_arms.Reads as two-arms
 use Rattle.walk.proofs.two_arms.Kinds as two-arms-kinds
 use Rattle.walk.proofs.+block_at+if_at+interp_region+last_pass+loop_at+one_arm+passes_at+two_arms.Lts-two_arms as two-arms-lts
-use Rattle.answer.proofs.Verdict.passed.Reads as passed-reads
 use Rattle.blocks.proofs.guard_at.Reads as guard-at-reads
 use Rattle.blocks.proofs.invalidate_written_locals.Reads as invalidate-written-locals-reads
 use Rattle.blocks.proofs.join_ends.Reads as join-ends-reads
@@ -162,7 +162,7 @@ abbrev two-arms-below : ℕ → In 7 two-arms-kinds.ps
 two-arms-below t =
     and 7 two-arms-kinds.ps (falls 7 two-arms-kinds.ps _<_ μ-two-arms t) two-arms.Pre
 
--- src/lib.rt:144:13
+-- src/lib.rt:145:13
 block-at-loop-at-requires : (t : ℕ) → block-at-lts.Need-loop-at-requires (
   loop-at-below t,
   loop-at.Post,
@@ -174,7 +174,7 @@ block-at-loop-at-requires : (t : ℕ) → block-at-lts.Need-loop-at-requires (
 unfolding leads
 block-at-loop-at-requires t c κs = (omega (arith, c .before .before .before .before .before .before .before .before .before .before .pre .0, (c .before .before .before .before .before .before .before .before .before .before .pre .1 .1 .1 .0)), (c .before .before .before .before .before .before .before .before .before .before .pre .1 .0, (c .before .before .before .before .before .before .before .before .before .before .pre .1 .1 .0, ((c .before .before .before .before .before .before .before .before .before .before .pre .1 .1 .1 .0), (c .before .before .before .before .before .before .before .before .before .before .pre .1 .1 .1 .3) ∙ ap (λ (k : ℕ). leads k (c .before .before .before .before .before .before .before .before .before .before .args .target)) (c .before .before .before .before .before .before .match .keys1)))))
 
--- src/lib.rt:162:13
+-- src/lib.rt:163:13
 block-at-if-at-requires : (t : ℕ) → block-at-lts.Need-if-at-requires (
   loop-at-below t,
   loop-at.Post,
@@ -186,7 +186,7 @@ block-at-if-at-requires : (t : ℕ) → block-at-lts.Need-if-at-requires (
 unfolding leads
 block-at-if-at-requires t c κs = (omega (arith, c .before .before .before .before .before .before .before .before .before .before .pre .0, (c .before .before .before .before .before .before .before .before .before .before .pre .1 .1 .1 .0)), (c .before .before .before .before .before .before .before .before .before .before .pre .1 .0, (c .before .before .before .before .before .before .before .before .before .before .pre .1 .1 .0, ((c .before .before .before .before .before .before .before .before .before .before .pre .1 .1 .1 .0), (c .before .before .before .before .before .before .before .before .before .before .pre .1 .1 .1 .3) ∙ ap (λ (k : ℕ). leads k (c .before .before .before .before .before .before .before .before .before .before .args .target)) (c .before .before .before .before .before .before .match .keys2)))))
 
--- src/lib.rt:180:13
+-- src/lib.rt:181:13
 block-at-leaf-at-requires : (t : ℕ) → block-at-lts.Need-leaf-at-requires (
   loop-at-below t,
   loop-at.Post,
@@ -195,9 +195,11 @@ block-at-leaf-at-requires : (t : ℕ) → block-at-lts.Need-leaf-at-requires (
   leaf-at-reads.Asked,
   leaf-at-reads.Learnt,
 ) (block-at-at t) block-at.Post
-block-at-leaf-at-requires t c κs = (c .before .before .before .before .before .before .before .before .before .before .pre .1 .0 .placed, (c .before .before .before .before .before .before .before .before .before .before .pre .1 .1 .0, (Cycle.inside (c .before .before .before .before .before .before .before .before .before .before .args .t .now) (c .before .before .before .before .before .before .before .before .before .before .args .heights .now) (c .before .before .before .before .before .before .before .before .before .before .args .blinds .now) (c .before .before .before .before .before .before .before .before .before .before .args .x) (c .before .before .before .before .before .before .before .before .before .before .args .ip) (c .before .before .before .before .before .before .before .before .before .before .args .end) (c .before .before .before .before .before .before .before .before .before .before .args .floor) _ _ (c .before .before .before .before .before .before .before .before .before .before .pre .1 .0) (c .before .before .before .before .before .before .before .before .before .before .pre .1 .1 .1 .0), c .before .before .before .before .before .before .before .before .before .before .pre .1 .0 .floor-low, c .before .before .before .before .before .before .before .before .before .before .pre .1 .0 .height-low, c .before .before .before .before .before .before .before .before .before .before .pre .1 .0 .breaks-low, c .before .before .before .before .before .before .before .before .before .before .pre .1 .1 .1 .1, c .before .before .before .before .before .before .before .before .before .before .pre .1 .1 .1 .2, c .before .before .before .before .before .before .match .rest .1, c .before .before .before .before .before .before .match .rest .0 .1, c .before .before .before .before .before .before .before .before .before .before .pre .1 .1 .1 .3)))
+block-at-leaf-at-requires t c κs =
+    (c .before .before .before .before .before .before .before .before .before .before .pre .1 .0 .placed, (c .before .before .before .before .before .before .before .before .before .before .pre .1 .1 .0, (Cycle.inside (c .before .before .before .before .before .before .before .before .before .before .args .t .now) (c .before .before .before .before .before .before .before .before .before .before .args .heights .now) (c .before .before .before .before .before .before .before .before .before .before .args .blinds .now) (c .before .before .before .before .before .before .before .before .before .before .args .x) (c .before .before .before .before .before .before .before .before .before .before .args .ip) (c .before .before .before .before .before .before .before .before .before .before .args .end) (c .before .before .before .before .before .before .before .before .before .before .args .floor) _ _ (c .before .before .before .before .before .before .before .before .before .before .pre .1 .0) (c .before .before .before .before .before .before .before .before .before .before .pre .1 .1 .1 .0), c .before .before .before .before .before .before .before .before .before .before .pre .1 .0 .floor-low, c .before .before .before .before .before .before .before .before .before .before .pre .1 .0 .height-low,
+    c .before .before .before .before .before .before .before .before .before .before .pre .1 .0 .breaks-low, c .before .before .before .before .before .before .before .before .before .before .pre .1 .1 .1 .1, c .before .before .before .before .before .before .before .before .before .before .pre .1 .1 .1 .2, c .before .before .before .before .before .before .match .rest .1, c .before .before .before .before .before .before .match .rest .0 .1, c .before .before .before .before .before .before .before .before .before .before .pre .1 .1 .1 .3)))
 
--- src/lib.rt:120:1
+-- src/lib.rt:121:1
 block-at-same-length : (t : ℕ) → block-at-lts.Need-same-length (
   loop-at-below t,
   loop-at.Post,
@@ -208,7 +210,7 @@ block-at-same-length : (t : ℕ) → block-at-lts.Need-same-length (
 ) (block-at-at t) block-at.Post
 block-at-same-length t c = search needs
 
--- src/lib.rt:120:1
+-- src/lib.rt:121:1
 block-at-same-length-2 : (t : ℕ) → block-at-lts.Need-same-length-2 (
   loop-at-below t,
   loop-at.Post,
@@ -219,7 +221,7 @@ block-at-same-length-2 : (t : ℕ) → block-at-lts.Need-same-length-2 (
 ) (block-at-at t) block-at.Post
 block-at-same-length-2 t c = search needs
 
--- src/lib.rt:120:1
+-- src/lib.rt:121:1
 block-at-returns : (t : ℕ) → block-at-lts.Need-returns (
   loop-at-below t,
   loop-at.Post,
@@ -229,9 +231,11 @@ block-at-returns : (t : ℕ) → block-at-lts.Need-returns (
   leaf-at-reads.Learnt,
 ) (block-at-at t) block-at.Post
 unfolding leads
-block-at-returns t c = (c .before .before .before .before .loop-at .ensures .0, c .before .before .before .before .loop-at .ensures .1, c .before .before .before .before .loop-at .ensures .2 ∙ ap (λ (k : ℕ). Visits.visitIn (c .before .before .before .before .before .before .before .before .before .before .before .before .before .before .before .args .t .now) (c .before .before .before .before .before .before .before .before .before .before .before .before .before .before .before .args .x) (c .before .before .before .before .before .before .before .before .before .before .before .before .before .before .before .args .ip) (c .before .before .before .before .before .before .before .before .before .before .before .before .before .before .before .args .end) (c .before .before .before .before .before .before .before .before .before .before .before .before .before .before .before .args .floor) (at (c .before .before .before .before .before .before .before .before .before .before .before .before .before .before .before .args .height) (c .before .before .before .before .before .before .before .before .before .before .before .before .before .before .before .args .slots .now) (c .before .before .before .before .before .before .before .before .before .before .before .before .before .before .before .args .places .now)) (breaksIn (c .before .before .before .before .before .before .before .before .before .before .before .before .before .before .before .args .b) (c .before .before .before .before .before .before .before .before .before .before .before .before .before .before .before .args .broken .now) (c .before .before .before .before .before .before .before .before .before .before .before .before .before .before .before .args .held .now)) (sheetsOf (c .before .before .before .before .before .before .before .before .before .before .before .before .before .before .before .args .heights .now) (c .before .before .before .before .before .before .before .before .before .before .before .before .before .before .before .args .blinds .now)) (leads k (c .before .before .before .before .before .before .before .before .before .before .before .before .before .before .before .args .target))) (sym (c .before .before .before .before .before .before .before .before .before .before .before .match .keys1)), c .before .before .before .before .loop-at .ensures .3)
+block-at-returns t c =
+    (c .before .before .before .before .loop-at .ensures .0, c .before .before .before .before .loop-at .ensures .1, c .before .before .before .before .loop-at .ensures .2 ∙ ap (λ (k : ℕ). Visits.visitIn (c .before .before .before .before .before .before .before .before .before .before .before .before .before .before .before .args .t .now) (c .before .before .before .before .before .before .before .before .before .before .before .before .before .before .before .args .x) (c .before .before .before .before .before .before .before .before .before .before .before .before .before .before .before .args .ip) (c .before .before .before .before .before .before .before .before .before .before .before .before .before .before .before .args .end) (c .before .before .before .before .before .before .before .before .before .before .before .before .before .before .before .args .floor) (at (c .before .before .before .before .before .before .before .before .before .before .before .before .before .before .before .args .height) (c .before .before .before .before .before .before .before .before .before .before .before .before .before .before .before .args .slots .now) (c .before .before .before .before .before .before .before .before .before .before .before .before .before .before .before .args .places .now)) (breaksIn (c .before .before .before .before .before .before .before .before .before .before .before .before .before .before .before .args .b) (c .before .before .before .before .before .before .before .before .before .before .before .before .before .before .before .args .broken .now) (c .before .before .before .before .before .before .before .before .before .before .before .before .before .before .before .args .held .now)) (sheetsOf (c .before .before .before .before .before .before .before .before .before .before .before .before .before .before .before .args .heights .now)
+    (c .before .before .before .before .before .before .before .before .before .before .before .before .before .before .before .args .blinds .now)) (leads k (c .before .before .before .before .before .before .before .before .before .before .before .before .before .before .before .args .target))) (sym (c .before .before .before .before .before .before .before .before .before .before .before .match .keys1)), c .before .before .before .before .loop-at .ensures .3)
 
--- src/lib.rt:120:1
+-- src/lib.rt:121:1
 block-at-same-length-3 : (t : ℕ) → block-at-lts.Need-same-length-3 (
   loop-at-below t,
   loop-at.Post,
@@ -242,7 +246,7 @@ block-at-same-length-3 : (t : ℕ) → block-at-lts.Need-same-length-3 (
 ) (block-at-at t) block-at.Post
 block-at-same-length-3 t c = search needs
 
--- src/lib.rt:120:1
+-- src/lib.rt:121:1
 block-at-same-length-4 : (t : ℕ) → block-at-lts.Need-same-length-4 (
   loop-at-below t,
   loop-at.Post,
@@ -253,7 +257,7 @@ block-at-same-length-4 : (t : ℕ) → block-at-lts.Need-same-length-4 (
 ) (block-at-at t) block-at.Post
 block-at-same-length-4 t c = search needs
 
--- src/lib.rt:120:1
+-- src/lib.rt:121:1
 block-at-returns-2 : (t : ℕ) → block-at-lts.Need-returns-2 (
   loop-at-below t,
   loop-at.Post,
@@ -263,9 +267,11 @@ block-at-returns-2 : (t : ℕ) → block-at-lts.Need-returns-2 (
   leaf-at-reads.Learnt,
 ) (block-at-at t) block-at.Post
 unfolding leads
-block-at-returns-2 t c = (c .before .before .before .before .if-at .ensures .0, c .before .before .before .before .if-at .ensures .1, c .before .before .before .before .if-at .ensures .2 ∙ ap (λ (k : ℕ). Visits.visitIn (c .before .before .before .before .before .before .before .before .before .before .before .before .before .before .before .args .t .now) (c .before .before .before .before .before .before .before .before .before .before .before .before .before .before .before .args .x) (c .before .before .before .before .before .before .before .before .before .before .before .before .before .before .before .args .ip) (c .before .before .before .before .before .before .before .before .before .before .before .before .before .before .before .args .end) (c .before .before .before .before .before .before .before .before .before .before .before .before .before .before .before .args .floor) (at (c .before .before .before .before .before .before .before .before .before .before .before .before .before .before .before .args .height) (c .before .before .before .before .before .before .before .before .before .before .before .before .before .before .before .args .slots .now) (c .before .before .before .before .before .before .before .before .before .before .before .before .before .before .before .args .places .now)) (breaksIn (c .before .before .before .before .before .before .before .before .before .before .before .before .before .before .before .args .b) (c .before .before .before .before .before .before .before .before .before .before .before .before .before .before .before .args .broken .now) (c .before .before .before .before .before .before .before .before .before .before .before .before .before .before .before .args .held .now)) (sheetsOf (c .before .before .before .before .before .before .before .before .before .before .before .before .before .before .before .args .heights .now) (c .before .before .before .before .before .before .before .before .before .before .before .before .before .before .before .args .blinds .now)) (leads k (c .before .before .before .before .before .before .before .before .before .before .before .before .before .before .before .args .target))) (sym (c .before .before .before .before .before .before .before .before .before .before .before .match .keys2)), c .before .before .before .before .if-at .ensures .3)
+block-at-returns-2 t c =
+    (c .before .before .before .before .if-at .ensures .0, c .before .before .before .before .if-at .ensures .1, c .before .before .before .before .if-at .ensures .2 ∙ ap (λ (k : ℕ). Visits.visitIn (c .before .before .before .before .before .before .before .before .before .before .before .before .before .before .before .args .t .now) (c .before .before .before .before .before .before .before .before .before .before .before .before .before .before .before .args .x) (c .before .before .before .before .before .before .before .before .before .before .before .before .before .before .before .args .ip) (c .before .before .before .before .before .before .before .before .before .before .before .before .before .before .before .args .end) (c .before .before .before .before .before .before .before .before .before .before .before .before .before .before .before .args .floor) (at (c .before .before .before .before .before .before .before .before .before .before .before .before .before .before .before .args .height) (c .before .before .before .before .before .before .before .before .before .before .before .before .before .before .before .args .slots .now) (c .before .before .before .before .before .before .before .before .before .before .before .before .before .before .before .args .places .now)) (breaksIn (c .before .before .before .before .before .before .before .before .before .before .before .before .before .before .before .args .b) (c .before .before .before .before .before .before .before .before .before .before .before .before .before .before .before .args .broken .now) (c .before .before .before .before .before .before .before .before .before .before .before .before .before .before .before .args .held .now)) (sheetsOf (c .before .before .before .before .before .before .before .before .before .before .before .before .before .before .before .args .heights .now)
+    (c .before .before .before .before .before .before .before .before .before .before .before .before .before .before .before .args .blinds .now)) (leads k (c .before .before .before .before .before .before .before .before .before .before .before .before .before .before .before .args .target))) (sym (c .before .before .before .before .before .before .before .before .before .before .before .match .keys2)), c .before .before .before .before .if-at .ensures .3)
 
--- src/lib.rt:120:1
+-- src/lib.rt:121:1
 block-at-same-length-5 : (t : ℕ) → block-at-lts.Need-same-length-5 (
   loop-at-below t,
   loop-at.Post,
@@ -276,7 +282,7 @@ block-at-same-length-5 : (t : ℕ) → block-at-lts.Need-same-length-5 (
 ) (block-at-at t) block-at.Post
 block-at-same-length-5 t c = search needs
 
--- src/lib.rt:120:1
+-- src/lib.rt:121:1
 block-at-same-length-6 : (t : ℕ) → block-at-lts.Need-same-length-6 (
   loop-at-below t,
   loop-at.Post,
@@ -287,7 +293,7 @@ block-at-same-length-6 : (t : ℕ) → block-at-lts.Need-same-length-6 (
 ) (block-at-at t) block-at.Post
 block-at-same-length-6 t c = search needs
 
--- src/lib.rt:120:1
+-- src/lib.rt:121:1
 block-at-returns-3 : (t : ℕ) → block-at-lts.Need-returns-3 (
   loop-at-below t,
   loop-at.Post,
@@ -296,14 +302,14 @@ block-at-returns-3 : (t : ℕ) → block-at-lts.Need-returns-3 (
   leaf-at-reads.Asked,
   leaf-at-reads.Learnt,
 ) (block-at-at t) block-at.Post
-block-at-returns-3 t c = (c .before .before .before .before .before .before .before .before .before .before .before .before .before .before .before .pre .1 .1 .0 .0, c .before .before .before .before .leaf-at .ensures .0, sym (c .before .before .before .before .leaf-at .ensures .1 (c .before .before .before .before .before .before .before .before .before .before .before .before .before .before .before .args .end)), (omega (arith, c .before .before .before .before .leaf-at .ensures .2 .0), omega (arith, c .before .before .before .before .leaf-at .ensures .2 .0, (c .before .before .before .before .before .before .before .before .before .before .before .before .before .before .before .pre .1 .1 .1 .0)), c .before .before .before .before .leaf-at .ensures .2 .1))
+block-at-returns-3 t c =
+    (c .before .before .before .before .before .before .before .before .before .before .before .before .before .before .before .pre .1 .1 .0 .0, c .before .before .before .before .leaf-at .ensures .0, sym (c .before .before .before .before .leaf-at .ensures .1 (c .before .before .before .before .before .before .before .before .before .before .before .before .before .before .before .args .end)), (omega (arith, c .before .before .before .before .leaf-at .ensures .2 .0), omega (arith, c .before .before .before .before .leaf-at .ensures .2 .0,
+    (c .before .before .before .before .before .before .before .before .before .before .before .before .before .before .before .pre .1 .1 .1 .0)), c .before .before .before .before .leaf-at .ensures .2 .1))
 
--- src/lib.rt:222:9
+-- src/lib.rt:223:9
 if-at-guard-at-requires : (t : ℕ) → if-at-lts.Need-guard-at-requires (
   guard-at-reads.Asked,
   guard-at-reads.Learnt,
-  passed-reads.Asked,
-  passed-reads.Learnt,
   refused-at-reads.Asked,
   refused-at-reads.Learnt,
   layout-of-reads.Asked,
@@ -313,99 +319,13 @@ if-at-guard-at-requires : (t : ℕ) → if-at-lts.Need-guard-at-requires (
   two-arms-below t,
   two-arms.Post,
 ) (if-at-at t) if-at.Post
-if-at-guard-at-requires t c κs = (c .before .before .before .before .pre .1 .0 .placed .heights-long, c .before .before .before .before .pre .1 .0 .placed .of .within, Cycle.inside (c .before .before .before .before .args .t .now) (c .before .before .before .before .args .heights .now) (c .before .before .before .before .args .blinds .now) (c .before .before .before .before .args .x) (c .before .before .before .before .args .ip) (c .before .before .before .before .args .end) (c .before .before .before .before .args .floor) _ _ (c .before .before .before .before .pre .1 .0) (c .before .before .before .before .pre .1 .1 .1 .0), c .before .before .before .before .pre .1 .0 .floor-low, c .before .before .before .before .pre .1 .0 .height-low, omega arith)
+if-at-guard-at-requires t c κs =
+    (c .before .before .before .before .pre .1 .0 .placed .heights-long, c .before .before .before .before .pre .1 .0 .placed .of .within, Cycle.inside (c .before .before .before .before .args .t .now) (c .before .before .before .before .args .heights .now) (c .before .before .before .before .args .blinds .now) (c .before .before .before .before .args .x) (c .before .before .before .before .args .ip) (c .before .before .before .before .args .end) (c .before .before .before .before .args .floor) _ _ (c .before .before .before .before .pre .1 .0) (c .before .before .before .before .pre .1 .1 .1 .0), c .before .before .before .before .pre .1 .0 .floor-low,
+    c .before .before .before .before .pre .1 .0 .height-low, omega arith)
 
--- src/lib.rt:223:8
-if-at-passed-requires : (t : ℕ) → if-at-lts.Need-passed-requires (
-  guard-at-reads.Asked,
-  guard-at-reads.Learnt,
-  passed-reads.Asked,
-  passed-reads.Learnt,
-  refused-at-reads.Asked,
-  refused-at-reads.Learnt,
-  layout-of-reads.Asked,
-  layout-of-reads.Learnt,
-  one-arm-below t,
-  one-arm.Post,
-  two-arms-below t,
-  two-arms.Post,
-) (if-at-at t) if-at.Post
-if-at-passed-requires t c κs = search needs
-
--- src/lib.rt:224:9
-if-at-refused-at-requires : (t : ℕ) → if-at-lts.Need-refused-at-requires (
-  guard-at-reads.Asked,
-  guard-at-reads.Learnt,
-  passed-reads.Asked,
-  passed-reads.Learnt,
-  refused-at-reads.Asked,
-  refused-at-reads.Learnt,
-  layout-of-reads.Asked,
-  layout-of-reads.Learnt,
-  one-arm-below t,
-  one-arm.Post,
-  two-arms-below t,
-  two-arms.Post,
-) (if-at-at t) if-at.Post
-if-at-refused-at-requires t c κs = omega (arith, Cycle.inside (c .before .before .before .before .before .before .before .before .before .args .t .now) (c .before .before .before .before .before .before .before .before .before .args .heights .now) (c .before .before .before .before .before .before .before .before .before .args .blinds .now) (c .before .before .before .before .before .before .before .before .before .args .x) (c .before .before .before .before .before .before .before .before .before .args .ip) (c .before .before .before .before .before .before .before .before .before .args .end) (c .before .before .before .before .before .before .before .before .before .args .floor) _ _ (c .before .before .before .before .before .before .before .before .before .pre .1 .0) (c .before .before .before .before .before .before .before .before .before .pre .1 .1 .1 .0), c .before .before .before .before .before .before .before .before .before .pre .1 .0 .placed .of .within)
-
--- src/lib.rt:224:9
-if-at-same-length : (t : ℕ) → if-at-lts.Need-same-length (
-  guard-at-reads.Asked,
-  guard-at-reads.Learnt,
-  passed-reads.Asked,
-  passed-reads.Learnt,
-  refused-at-reads.Asked,
-  refused-at-reads.Learnt,
-  layout-of-reads.Asked,
-  layout-of-reads.Learnt,
-  one-arm-below t,
-  one-arm.Post,
-  two-arms-below t,
-  two-arms.Post,
-) (if-at-at t) if-at.Post
-if-at-same-length t c = search needs
-
--- src/lib.rt:224:9
-if-at-returns : (t : ℕ) → if-at-lts.Need-returns (
-  guard-at-reads.Asked,
-  guard-at-reads.Learnt,
-  passed-reads.Asked,
-  passed-reads.Learnt,
-  refused-at-reads.Asked,
-  refused-at-reads.Learnt,
-  layout-of-reads.Asked,
-  layout-of-reads.Learnt,
-  one-arm-below t,
-  one-arm.Post,
-  two-arms-below t,
-  two-arms.Post,
-) (if-at-at t) if-at.Post
-if-at-returns t c = (c .before .before .before .before .before .before .before .before .before .before .pre .1 .1 .0 .0, c .before .before .before .before .before .before .before .before .before .before .pre .1 .1 .0 .1, sym (Steps.visit-refused (c .before .before .before .before .before .before .before .before .before .before .args .t .now) (c .before .before .before .before .before .before .before .before .before .before .args .x) (c .before .before .before .before .before .before .before .before .before .before .args .ip) (c .before .before .before .before .before .before .before .before .before .before .args .floor) (at (c .before .before .before .before .before .before .before .before .before .before .args .height) (c .before .before .before .before .before .before .before .before .before .before .args .slots .now) (c .before .before .before .before .before .before .before .before .before .before .args .places .now)) (breaksIn (c .before .before .before .before .before .before .before .before .before .before .args .b) (c .before .before .before .before .before .before .before .before .before .before .args .broken .now) (c .before .before .before .before .before .before .before .before .before .before .args .held .now)) _ (Guards.guardedStep (c .before .before .before .before .before .guard-at .result) 1 (at (c .before .before .before .before .before .before .before .before .before .before .args .height) (c .before .before .before .before .before .before .before .before .before .before .args .slots .now) (c .before .before .before .before .before .before .before .before .before .before .args .places .now))) (Guards.guard-examined (c .before .before .before .before .before .before .before .before .before .before .args .t .now) (c .before .before .before .before .before .before .before .before .before .before .args .x) (c .before .before .before .before .before .before .before .before .before .before .args .ip) (c .before .before .before .before .before .before .before .before .before .before .args .floor) (at (c .before .before .before .before .before .before .before .before .before .before .args .height) (c .before .before .before .before .before .before .before .before .before .before .args .slots .now) (c .before .before .before .before .before .before .before .before .before .before .args .places .now)) 1 _ _ (c .before .before .before .before .before .guard-at .result) (c .before .before .before .before .before .guard-at .ensures) (c .before .before .before .before .before .before .before .before .before .before .pre .1 .1 .1 .1) tt (Guards.one-needed (Visits.chunkIn (c .before .before .before .before .before .before .before .before .before .before .args .t .now) (c .before .before .before .before .before .before .before .before .before .before .args .x)) (Visits.instrIn (c .before .before .before .before .before .before .before .before .before .before .args .t .now) (c .before .before .before .before .before .before .before .before .before .before .args .x) (c .before .before .before .before .before .before .before .before .before .before .args .ip)) (c .before .before .before .before .before .before .before .before .before .before .pre .1 .1 .1 .1) refl tt) (c .before .before .before .before .before .before .before .before .before .before .pre .1 .0 .height-low)) (ifTo (c .before .before .before .before .before .before .before .before .before .before .args .target)) tt (sym (c .before .before .passed .ensures) ∙ c .before .if1 .left) (c .before .before .before .before .before .before .before .before .before .before .args .end) (onwardIn (c .refused-at .result) (c .before .before .before .before .before .before .before .before .before .before .args .slots .now) (c .before .before .before .before .before .before .before .before .before .before .args .places .now) (c .before .before .before .before .before .before .before .before .before .before .args .broken .now) (c .before .before .before .before .before .before .before .before .before .before .args .held .now)) _ (c .refused-at .ensures .1)), (omega (arith, c .refused-at .ensures .0), omega (arith, c .refused-at .ensures .0, (c .before .before .before .before .before .before .before .before .before .before .pre .1 .1 .1 .0)), (subst (λ (z : ℕ). z ≤ 64) (sym (c .refused-at .ensures .2)) (c .before .before .before .before .before .before .before .before .before .before .pre .1 .0 .height-low), subst (λ (z : Breaks). z .height ≤ 64) (sym (c .refused-at .ensures .3)) (c .before .before .before .before .before .before .before .before .before .before .pre .1 .0 .breaks-low))))
-
--- src/lib.rt:226:9
-if-at-layout-of-requires : (t : ℕ) → if-at-lts.Need-layout-of-requires (
-  guard-at-reads.Asked,
-  guard-at-reads.Learnt,
-  passed-reads.Asked,
-  passed-reads.Learnt,
-  refused-at-reads.Asked,
-  refused-at-reads.Learnt,
-  layout-of-reads.Asked,
-  layout-of-reads.Learnt,
-  one-arm-below t,
-  one-arm.Post,
-  two-arms-below t,
-  two-arms.Post,
-) (if-at-at t) if-at.Post
-if-at-layout-of-requires t c κs = (c .before .before .before .before .before .before .before .before .before .pre .1 .0 .placed .of .first, c .before .before .before .before .before .before .before .before .before .pre .1 .0 .placed .of .count, c .before .before .before .before .before .before .before .before .before .pre .1 .0 .placed .of .within, Cycle.inside (c .before .before .before .before .before .before .before .before .before .args .t .now) (c .before .before .before .before .before .before .before .before .before .args .heights .now) (c .before .before .before .before .before .before .before .before .before .args .blinds .now) (c .before .before .before .before .before .before .before .before .before .args .x) (c .before .before .before .before .before .before .before .before .before .args .ip) (c .before .before .before .before .before .before .before .before .before .args .end) (c .before .before .before .before .before .before .before .before .before .args .floor) _ _ (c .before .before .before .before .before .before .before .before .before .pre .1 .0) (c .before .before .before .before .before .before .before .before .before .pre .1 .1 .1 .0))
-
--- src/lib.rt:231:17
 if-at-enum-told : (t : ℕ) → if-at-lts.Need-enum-told (
   guard-at-reads.Asked,
   guard-at-reads.Learnt,
-  passed-reads.Asked,
-  passed-reads.Learnt,
   refused-at-reads.Asked,
   refused-at-reads.Learnt,
   layout-of-reads.Asked,
@@ -417,12 +337,10 @@ if-at-enum-told : (t : ℕ) → if-at-lts.Need-enum-told (
 ) (if-at-at t) if-at.Post
 if-at-enum-told t c = search needs
 
--- src/lib.rt:242:17
-if-at-sub-one-arm : (t : ℕ) → if-at-lts.Need-sub-one-arm (
+-- src/lib.rt:225:9
+if-at-enum-told-2 : (t : ℕ) → if-at-lts.Need-enum-told-2 (
   guard-at-reads.Asked,
   guard-at-reads.Learnt,
-  passed-reads.Asked,
-  passed-reads.Learnt,
   refused-at-reads.Asked,
   refused-at-reads.Learnt,
   layout-of-reads.Asked,
@@ -432,14 +350,106 @@ if-at-sub-one-arm : (t : ℕ) → if-at-lts.Need-sub-one-arm (
   two-arms-below t,
   two-arms.Post,
 ) (if-at-at t) if-at.Post
-if-at-sub-one-arm t c = c .before .before .before .before .before .before .before .before .before .before .before .before .before .guard-at .ensures .room (is-none-eq _ (sym (c .before .before .before .before .before .before .before .before .before .before .passed .ensures) ∙ c .before .before .before .before .before .before .before .before .before .if1 .taken))
+if-at-enum-told-2 t c = search needs
 
--- src/lib.rt:229:13
+-- src/lib.rt:225:9
+if-at-refused-at-requires : (t : ℕ) → if-at-lts.Need-refused-at-requires (
+  guard-at-reads.Asked,
+  guard-at-reads.Learnt,
+  refused-at-reads.Asked,
+  refused-at-reads.Learnt,
+  layout-of-reads.Asked,
+  layout-of-reads.Learnt,
+  one-arm-below t,
+  one-arm.Post,
+  two-arms-below t,
+  two-arms.Post,
+) (if-at-at t) if-at.Post
+if-at-refused-at-requires t c κs = omega (arith, Cycle.inside (c .before .before .before .before .before .before .before .before .before .args .t .now) (c .before .before .before .before .before .before .before .before .before .args .heights .now) (c .before .before .before .before .before .before .before .before .before .args .blinds .now) (c .before .before .before .before .before .before .before .before .before .args .x) (c .before .before .before .before .before .before .before .before .before .args .ip) (c .before .before .before .before .before .before .before .before .before .args .end) (c .before .before .before .before .before .before .before .before .before .args .floor) _ _ (c .before .before .before .before .before .before .before .before .before .pre .1 .0) (c .before .before .before .before .before .before .before .before .before .pre .1 .1 .1 .0), c .before .before .before .before .before .before .before .before .before .pre .1 .0 .placed .of .within)
+
+-- src/lib.rt:225:9
+if-at-same-length : (t : ℕ) → if-at-lts.Need-same-length (
+  guard-at-reads.Asked,
+  guard-at-reads.Learnt,
+  refused-at-reads.Asked,
+  refused-at-reads.Learnt,
+  layout-of-reads.Asked,
+  layout-of-reads.Learnt,
+  one-arm-below t,
+  one-arm.Post,
+  two-arms-below t,
+  two-arms.Post,
+) (if-at-at t) if-at.Post
+if-at-same-length t c = search needs
+
+-- src/lib.rt:225:9
+if-at-returns : (t : ℕ) → if-at-lts.Need-returns (
+  guard-at-reads.Asked,
+  guard-at-reads.Learnt,
+  refused-at-reads.Asked,
+  refused-at-reads.Learnt,
+  layout-of-reads.Asked,
+  layout-of-reads.Learnt,
+  one-arm-below t,
+  one-arm.Post,
+  two-arms-below t,
+  two-arms.Post,
+) (if-at-at t) if-at.Post
+if-at-returns t c =
+    (c .before .before .before .before .before .before .before .before .before .before .pre .1 .1 .0 .0, c .before .before .before .before .before .before .before .before .before .before .pre .1 .1 .0 .1, sym (Steps.visit-refused (c .before .before .before .before .before .before .before .before .before .before .args .t .now) (c .before .before .before .before .before .before .before .before .before .before .args .x) (c .before .before .before .before .before .before .before .before .before .before .args .ip) (c .before .before .before .before .before .before .before .before .before .before .args .floor) (at (c .before .before .before .before .before .before .before .before .before .before .args .height) (c .before .before .before .before .before .before .before .before .before .before .args .slots .now) (c .before .before .before .before .before .before .before .before .before .before .args .places .now)) (breaksIn (c .before .before .before .before .before .before .before .before .before .before .args .b) (c .before .before .before .before .before .before .before .before .before .before .args .broken .now) (c .before .before .before .before .before .before .before .before .before .before .args .held .now)) _ (Guards.guardedStep (c .before .before .before .before .before .guard-at .result) 1 (at (c .before .before .before .before .before .before .before .before .before .before .args .height) (c .before .before .before .before .before .before .before .before .before .before .args .slots .now) (c .before .before .before .before .before .before .before .before .before .before .args .places .now))) (Guards.guard-examined (c .before .before .before .before .before .before .before .before .before .before .args .t .now) (c .before .before .before .before .before .before .before .before .before .before .args .x) (c .before .before .before .before .before .before .before .before .before .before .args .ip) (c .before .before .before .before .before .before .before .before .before .before .args .floor) (at (c .before .before .before .before .before .before .before .before .before .before .args .height) (c .before .before .before .before .before .before .before .before .before .before .args .slots .now) (c .before .before .before .before .before .before .before .before .before .before .args .places .now)) 1 _ _ (c .before .before .before .before .before .guard-at .result) (c .before .before .before .before .before .guard-at .ensures) (c .before .before .before .before .before .before .before .before .before .before .pre .1 .1 .1 .1) tt (Guards.one-needed (Visits.chunkIn (c .before .before .before .before .before .before .before .before .before .before .args .t .now) (c .before .before .before .before .before .before .before .before .before .before .args .x)) (Visits.instrIn (c .before .before .before .before .before .before .before .before .before .before .args .t .now) (c .before .before .before .before .before .before .before .before .before .before .args .x) (c .before .before .before .before .before .before .before .before .before .before .args .ip)) (c .before .before .before .before .before .before .before .before .before .before .pre .1 .1 .1 .1) refl tt) (c .before .before .before .before .before .before .before .before .before .before .pre .1 .0 .height-low)) (ifTo (c .before .before .before .before .before .before .before .before .before .before .args .target))
+    tt (sym (passed-no _ (c .before .enum-told2 .given .1))) (c .before .before .before .before .before .before .before .before .before .before .args .end) (onwardIn (c .refused-at .result) (c .before .before .before .before .before .before .before .before .before .before .args .slots .now) (c .before .before .before .before .before .before .before .before .before .before .args .places .now) (c .before .before .before .before .before .before .before .before .before .before .args .broken .now) (c .before .before .before .before .before .before .before .before .before .before .args .held .now)) _
+    (c .refused-at .ensures .1)), (omega (arith, c .refused-at .ensures .0), omega (arith, c .refused-at .ensures .0, (c .before .before .before .before .before .before .before .before .before .before .pre .1 .1 .1 .0)), (subst (λ (z : ℕ). z ≤ 64) (sym
+    (c .refused-at .ensures .2)) (c .before .before .before .before .before .before .before .before .before .before .pre .1 .0 .height-low), subst (λ (z : Breaks). z .height ≤ 64) (sym (c .refused-at .ensures .3)) (c .before .before .before .before .before .before .before .before .before .before .pre .1 .0 .breaks-low))))
+
+-- src/lib.rt:227:9
+if-at-layout-of-requires : (t : ℕ) → if-at-lts.Need-layout-of-requires (
+  guard-at-reads.Asked,
+  guard-at-reads.Learnt,
+  refused-at-reads.Asked,
+  refused-at-reads.Learnt,
+  layout-of-reads.Asked,
+  layout-of-reads.Learnt,
+  one-arm-below t,
+  one-arm.Post,
+  two-arms-below t,
+  two-arms.Post,
+) (if-at-at t) if-at.Post
+if-at-layout-of-requires t c κs = (c .before .before .before .before .before .before .before .before .before .pre .1 .0 .placed .of .first, c .before .before .before .before .before .before .before .before .before .pre .1 .0 .placed .of .count, c .before .before .before .before .before .before .before .before .before .pre .1 .0 .placed .of .within, Cycle.inside (c .before .before .before .before .before .before .before .before .before .args .t .now) (c .before .before .before .before .before .before .before .before .before .args .heights .now) (c .before .before .before .before .before .before .before .before .before .args .blinds .now) (c .before .before .before .before .before .before .before .before .before .args .x) (c .before .before .before .before .before .before .before .before .before .args .ip) (c .before .before .before .before .before .before .before .before .before .args .end) (c .before .before .before .before .before .before .before .before .before .args .floor) _ _ (c .before .before .before .before .before .before .before .before .before .pre .1 .0) (c .before .before .before .before .before .before .before .before .before .pre .1 .1 .1 .0))
+
+-- src/lib.rt:232:17
+if-at-enum-told-3 : (t : ℕ) → if-at-lts.Need-enum-told-3 (
+  guard-at-reads.Asked,
+  guard-at-reads.Learnt,
+  refused-at-reads.Asked,
+  refused-at-reads.Learnt,
+  layout-of-reads.Asked,
+  layout-of-reads.Learnt,
+  one-arm-below t,
+  one-arm.Post,
+  two-arms-below t,
+  two-arms.Post,
+) (if-at-at t) if-at.Post
+if-at-enum-told-3 t c = search needs
+
+-- src/lib.rt:243:17
+if-at-sub-one-arm : (t : ℕ) → if-at-lts.Need-sub-one-arm (
+  guard-at-reads.Asked,
+  guard-at-reads.Learnt,
+  refused-at-reads.Asked,
+  refused-at-reads.Learnt,
+  layout-of-reads.Asked,
+  layout-of-reads.Learnt,
+  one-arm-below t,
+  one-arm.Post,
+  two-arms-below t,
+  two-arms.Post,
+) (if-at-at t) if-at.Post
+if-at-sub-one-arm t c = c .before .before .before .before .before .before .before .before .before .before .before .before .before .guard-at .ensures .room (is-none-eq _ (sym (passed-yes _ (c .before .before .before .before .before .before .before .before .before .enum-told .given .1))))
+
+-- src/lib.rt:230:13
 if-at-one-arm-requires : (t : ℕ) → if-at-lts.Need-one-arm-requires (
   guard-at-reads.Asked,
   guard-at-reads.Learnt,
-  passed-reads.Asked,
-  passed-reads.Learnt,
   refused-at-reads.Asked,
   refused-at-reads.Learnt,
   layout-of-reads.Asked,
@@ -450,14 +460,15 @@ if-at-one-arm-requires : (t : ℕ) → if-at-lts.Need-one-arm-requires (
   two-arms.Post,
 ) (if-at-at t) if-at.Post
 unfolding Outcomes.elseOf
-if-at-one-arm-requires t c κs = (omega (arith, c .before .before .before .before .before .before .before .before .before .before .before .before .before .before .before .before .before .before .pre .0, (c .before .before .before .before .before .before .before .before .before .before .before .before .before .before .before .before .before .before .pre .1 .1 .1 .0)), (record { placed = Cycle.placed-by (c .before .before .before .before .before .before .before .before .before .before .before .before .before .before .before .before .before .before .args .t .now) (c .before .before .before .before .before .before .before .before .before .before .before .before .before .before .before .before .before .before .args .heights .now) (c .before .before .before .before .before .before .before .before .before .before .before .before .before .before .before .before .before .before .args .blinds .now) _ (c .before .before .before .before .before .before .before .before .before .before .before .before .before .before .before .before .before .before .args .blinds .now) (c .before .before .before .before .before .before .before .before .before .before .before .before .before .before .before .before .before .before .args .x) (c .before .before .before .before .before .before .before .before .before .before .before .before .before .guard-at .kept .0) refl (c .before .before .before .before .before .before .before .before .before .before .before .before .before .before .before .before .before .before .pre .1 .0 .placed); from = c .before .before .before .before .before .before .before .before .before .before .before .before .before .before .before .before .before .before .pre .1 .0 .from; arm = c .before .before .before .before .before .before .before .before .before .before .before .before .before .before .before .before .before .before .pre .1 .0 .arm; after = c .before .before .before .before .before .before .before .before .before .before .before .before .before .before .before .before .before .before .pre .1 .0 .after; before = c .before .before .before .before .before .before .before .before .before .before .before .before .before .before .before .before .before .before .pre .1 .0 .before; floor-low = c .before .before .before .before .before .before .before .before .before .before .before .before .before .before .before .before .before .before .pre .1 .0 .floor-low; height-low = omega (arith, c .before .before .before .before .before .before .before .before .before .before .before .before .before .before .before .before .before .before .pre .1 .0 .height-low); breaks-low = c .before .before .before .before .before .before .before .before .before .before .before .before .before .before .before .before .before .before .pre .1 .0 .breaks-low }, (c .before .before .before .before .before .before .before .before .before .before .before .before .before .before .before .before .before .before .pre .1 .1 .0, ((c .before .before .before .before .before .before .before .before .before .before .before .before .before .before .before .before .before .before .pre .1 .1 .1 .0), (c .before .before .before .before .before .before .before .before .before .before .before .before .before .before .before .before .before .before .pre .1 .1 .1 .1), (ap Outcomes.elseOf (sym (c .before .before .before .before .before .before .enum-told .given .1)) ∙ c .before .before .before .before .before .before .before .before .layout-of .ensures)))))
+if-at-one-arm-requires t c κs =
+    (omega (arith, c .before .before .before .before .before .before .before .before .before .before .before .before .before .before .before .before .before .before .pre .0, (c .before .before .before .before .before .before .before .before .before .before .before .before .before .before .before .before .before .before .pre .1 .1 .1 .0)), (record { placed = Cycle.placed-by (c .before .before .before .before .before .before .before .before .before .before .before .before .before .before .before .before .before .before .args .t .now) (c .before .before .before .before .before .before .before .before .before .before .before .before .before .before .before .before .before .before .args .heights .now) (c .before .before .before .before .before .before .before .before .before .before .before .before .before .before .before .before .before .before .args .blinds .now) _ (c .before .before .before .before .before .before .before .before .before .before .before .before .before .before .before .before .before .before .args .blinds .now) (c .before .before .before .before .before .before .before .before .before .before .before .before .before .before .before .before .before .before .args .x) (c .before .before .before .before .before .before .before .before .before .before .before .before .before .guard-at .kept .0) refl (c .before .before .before .before .before .before .before .before .before .before .before .before .before .before .before .before .before .before .pre .1 .0 .placed); from
+    = c .before .before .before .before .before .before .before .before .before .before .before .before .before .before .before .before .before .before .pre .1 .0 .from; arm = c .before .before .before .before .before .before .before .before .before .before .before .before .before .before .before .before .before .before .pre .1 .0 .arm; after = c .before .before .before .before .before .before .before .before .before .before .before .before .before .before .before .before .before .before .pre .1 .0 .after; before = c .before .before .before .before .before .before .before .before .before .before .before .before .before .before .before .before .before .before .pre .1 .0 .before; floor-low = c .before .before .before .before .before .before .before .before .before .before .before .before .before .before .before .before .before .before .pre .1 .0 .floor-low; height-low = omega (arith, c .before .before .before .before .before .before .before .before .before .before .before .before .before .before .before .before .before .before .pre .1 .0 .height-low);
+    breaks-low = c .before .before .before .before .before .before .before .before .before .before .before .before .before .before .before .before .before .before .pre .1 .0 .breaks-low }, (c .before .before .before .before .before .before .before .before .before .before .before .before .before .before .before .before .before .before .pre .1 .1 .0, ((c .before .before .before .before .before .before .before .before .before .before .before .before .before .before .before .before .before .before .pre .1 .1 .1 .0), (c .before .before .before .before .before .before .before .before .before .before .before .before .before .before .before .before .before .before .pre .1 .1 .1 .1), (ap Outcomes.elseOf (sym (c .before .before .before .before .before .before .enum-told3 .given .1)) ∙ c .before .before .before .before .before .before .before .before .layout-of .ensures)))))
 
--- src/lib.rt:246:25
+-- src/lib.rt:247:25
 if-at-enum-known-l : (t : ℕ) → if-at-lts.Need-enum-known-l (
   guard-at-reads.Asked,
   guard-at-reads.Learnt,
-  passed-reads.Asked,
-  passed-reads.Learnt,
   refused-at-reads.Asked,
   refused-at-reads.Learnt,
   layout-of-reads.Asked,
@@ -469,12 +480,10 @@ if-at-enum-known-l : (t : ℕ) → if-at-lts.Need-enum-known-l (
 ) (if-at-at t) if-at.Post
 if-at-enum-known-l t c = search needs
 
--- src/lib.rt:261:17
+-- src/lib.rt:262:17
 if-at-sub-two-arms : (t : ℕ) → if-at-lts.Need-sub-two-arms (
   guard-at-reads.Asked,
   guard-at-reads.Learnt,
-  passed-reads.Asked,
-  passed-reads.Learnt,
   refused-at-reads.Asked,
   refused-at-reads.Learnt,
   layout-of-reads.Asked,
@@ -484,14 +493,12 @@ if-at-sub-two-arms : (t : ℕ) → if-at-lts.Need-sub-two-arms (
   two-arms-below t,
   two-arms.Post,
 ) (if-at-at t) if-at.Post
-if-at-sub-two-arms t c = c .before .before .before .before .before .before .before .before .before .before .before .before .before .before .guard-at .ensures .room (is-none-eq _ (sym (c .before .before .before .before .before .before .before .before .before .before .before .passed .ensures) ∙ c .before .before .before .before .before .before .before .before .before .before .if1 .taken))
+if-at-sub-two-arms t c = c .before .before .before .before .before .before .before .before .before .before .before .before .before .before .guard-at .ensures .room (is-none-eq _ (sym (passed-yes _ (c .before .before .before .before .before .before .before .before .before .before .enum-told .given .1))))
 
--- src/lib.rt:247:13
+-- src/lib.rt:248:13
 if-at-two-arms-requires : (t : ℕ) → if-at-lts.Need-two-arms-requires (
   guard-at-reads.Asked,
   guard-at-reads.Learnt,
-  passed-reads.Asked,
-  passed-reads.Learnt,
   refused-at-reads.Asked,
   refused-at-reads.Learnt,
   layout-of-reads.Asked,
@@ -502,14 +509,15 @@ if-at-two-arms-requires : (t : ℕ) → if-at-lts.Need-two-arms-requires (
   two-arms.Post,
 ) (if-at-at t) if-at.Post
 unfolding Outcomes.elseOf
-if-at-two-arms-requires t c κs = (omega (arith, c .before .before .before .before .before .before .before .before .before .before .before .before .before .before .before .before .before .before .before .pre .0, (c .before .before .before .before .before .before .before .before .before .before .before .before .before .before .before .before .before .before .before .pre .1 .1 .1 .0)), (record { placed = Cycle.placed-by (c .before .before .before .before .before .before .before .before .before .before .before .before .before .before .before .before .before .before .before .args .t .now) (c .before .before .before .before .before .before .before .before .before .before .before .before .before .before .before .before .before .before .before .args .heights .now) (c .before .before .before .before .before .before .before .before .before .before .before .before .before .before .before .before .before .before .before .args .blinds .now) _ (c .before .before .before .before .before .before .before .before .before .before .before .before .before .before .before .before .before .before .before .args .blinds .now) (c .before .before .before .before .before .before .before .before .before .before .before .before .before .before .before .before .before .before .before .args .x) (c .before .before .before .before .before .before .before .before .before .before .before .before .before .before .guard-at .kept .0) refl (c .before .before .before .before .before .before .before .before .before .before .before .before .before .before .before .before .before .before .before .pre .1 .0 .placed); from = c .before .before .before .before .before .before .before .before .before .before .before .before .before .before .before .before .before .before .before .pre .1 .0 .from; arm = c .before .before .before .before .before .before .before .before .before .before .before .before .before .before .before .before .before .before .before .pre .1 .0 .arm; after = c .before .before .before .before .before .before .before .before .before .before .before .before .before .before .before .before .before .before .before .pre .1 .0 .after; before = c .before .before .before .before .before .before .before .before .before .before .before .before .before .before .before .before .before .before .before .pre .1 .0 .before; floor-low = c .before .before .before .before .before .before .before .before .before .before .before .before .before .before .before .before .before .before .before .pre .1 .0 .floor-low; height-low = omega (arith, c .before .before .before .before .before .before .before .before .before .before .before .before .before .before .before .before .before .before .before .pre .1 .0 .height-low); breaks-low = c .before .before .before .before .before .before .before .before .before .before .before .before .before .before .before .before .before .before .before .pre .1 .0 .breaks-low }, (c .before .before .before .before .before .before .before .before .before .before .before .before .before .before .before .before .before .before .before .pre .1 .1 .0, ((c .before .before .before .before .before .before .before .before .before .before .before .before .before .before .before .before .before .before .before .pre .1 .1 .1 .0), (c .before .before .before .before .before .before .before .before .before .before .before .before .before .before .before .before .before .before .before .pre .1 .1 .1 .1), (ap Outcomes.elseOf (sym (c .before .before .before .before .before .before .before .l .given .1)) ∙ c .before .before .before .before .before .before .before .before .before .layout-of .ensures)))))
+if-at-two-arms-requires t c κs =
+    (omega (arith, c .before .before .before .before .before .before .before .before .before .before .before .before .before .before .before .before .before .before .before .pre .0, (c .before .before .before .before .before .before .before .before .before .before .before .before .before .before .before .before .before .before .before .pre .1 .1 .1 .0)), (record { placed = Cycle.placed-by (c .before .before .before .before .before .before .before .before .before .before .before .before .before .before .before .before .before .before .before .args .t .now) (c .before .before .before .before .before .before .before .before .before .before .before .before .before .before .before .before .before .before .before .args .heights .now) (c .before .before .before .before .before .before .before .before .before .before .before .before .before .before .before .before .before .before .before .args .blinds .now) _ (c .before .before .before .before .before .before .before .before .before .before .before .before .before .before .before .before .before .before .before .args .blinds .now) (c .before .before .before .before .before .before .before .before .before .before .before .before .before .before .before .before .before .before .before .args .x) (c .before .before .before .before .before .before .before .before .before .before .before .before .before .before .guard-at .kept .0) refl (c .before .before .before .before .before .before .before .before .before .before .before .before .before .before .before .before .before .before .before .pre .1 .0 .placed); from
+    = c .before .before .before .before .before .before .before .before .before .before .before .before .before .before .before .before .before .before .before .pre .1 .0 .from; arm = c .before .before .before .before .before .before .before .before .before .before .before .before .before .before .before .before .before .before .before .pre .1 .0 .arm; after = c .before .before .before .before .before .before .before .before .before .before .before .before .before .before .before .before .before .before .before .pre .1 .0 .after; before = c .before .before .before .before .before .before .before .before .before .before .before .before .before .before .before .before .before .before .before .pre .1 .0 .before; floor-low = c .before .before .before .before .before .before .before .before .before .before .before .before .before .before .before .before .before .before .before .pre .1 .0 .floor-low; height-low = omega (arith, c .before .before .before .before .before .before .before .before .before .before .before .before .before .before .before .before .before .before .before .pre .1 .0 .height-low);
+    breaks-low = c .before .before .before .before .before .before .before .before .before .before .before .before .before .before .before .before .before .before .before .pre .1 .0 .breaks-low }, (c .before .before .before .before .before .before .before .before .before .before .before .before .before .before .before .before .before .before .before .pre .1 .1 .0, ((c .before .before .before .before .before .before .before .before .before .before .before .before .before .before .before .before .before .before .before .pre .1 .1 .1 .0), (c .before .before .before .before .before .before .before .before .before .before .before .before .before .before .before .before .before .before .before .pre .1 .1 .1 .1), (ap Outcomes.elseOf (sym (c .before .before .before .before .before .before .before .l .given .1)) ∙ c .before .before .before .before .before .before .before .before .before .layout-of .ensures)))))
 
--- src/lib.rt:201:1
+-- src/lib.rt:202:1
 if-at-same-length-2 : (t : ℕ) → if-at-lts.Need-same-length-2 (
   guard-at-reads.Asked,
   guard-at-reads.Learnt,
-  passed-reads.Asked,
-  passed-reads.Learnt,
   refused-at-reads.Asked,
   refused-at-reads.Learnt,
   layout-of-reads.Asked,
@@ -521,12 +529,10 @@ if-at-same-length-2 : (t : ℕ) → if-at-lts.Need-same-length-2 (
 ) (if-at-at t) if-at.Post
 if-at-same-length-2 t c = search needs
 
--- src/lib.rt:201:1
+-- src/lib.rt:202:1
 if-at-same-length-3 : (t : ℕ) → if-at-lts.Need-same-length-3 (
   guard-at-reads.Asked,
   guard-at-reads.Learnt,
-  passed-reads.Asked,
-  passed-reads.Learnt,
   refused-at-reads.Asked,
   refused-at-reads.Learnt,
   layout-of-reads.Asked,
@@ -538,12 +544,10 @@ if-at-same-length-3 : (t : ℕ) → if-at-lts.Need-same-length-3 (
 ) (if-at-at t) if-at.Post
 if-at-same-length-3 t c = search needs
 
--- src/lib.rt:201:1
+-- src/lib.rt:202:1
 if-at-returns-2 : (t : ℕ) → if-at-lts.Need-returns-2 (
   guard-at-reads.Asked,
   guard-at-reads.Learnt,
-  passed-reads.Asked,
-  passed-reads.Learnt,
   refused-at-reads.Asked,
   refused-at-reads.Learnt,
   layout-of-reads.Asked,
@@ -553,14 +557,16 @@ if-at-returns-2 : (t : ℕ) → if-at-lts.Need-returns-2 (
   two-arms-below t,
   two-arms.Post,
 ) (if-at-at t) if-at.Post
-if-at-returns-2 t c = (c .before .before .before .before .one-arm .ensures .0, c .before .before .before .before .one-arm .ensures .1, Cycle.if-passed (c .before .before .before .before .before .before .before .before .before .before .before .before .before .before .before .before .before .before .before .before .before .before .before .args .t .now) (c .before .before .before .before .before .before .before .before .before .before .before .before .before .before .before .before .before .before .before .before .before .before .before .args .x) (c .before .before .before .before .before .before .before .before .before .before .before .before .before .before .before .before .before .before .before .before .before .before .before .args .target) (c .before .before .before .before .before .before .before .before .before .before .before .before .before .before .before .before .before .before .before .before .before .before .before .args .ip) (c .before .before .before .before .before .before .before .before .before .before .before .before .before .before .before .before .before .before .before .before .before .before .before .args .end) (c .before .before .before .before .before .before .before .before .before .before .before .before .before .before .before .before .before .before .before .before .before .before .before .args .floor) (at (c .before .before .before .before .before .before .before .before .before .before .before .before .before .before .before .before .before .before .before .before .before .before .before .args .height) (c .before .before .before .before .before .before .before .before .before .before .before .before .before .before .before .before .before .before .before .before .before .before .before .args .slots .now) (c .before .before .before .before .before .before .before .before .before .before .before .before .before .before .before .before .before .before .before .before .before .before .before .args .places .now)) (breaksIn (c .before .before .before .before .before .before .before .before .before .before .before .before .before .before .before .before .before .before .before .before .before .before .before .args .b) (c .before .before .before .before .before .before .before .before .before .before .before .before .before .before .before .before .before .before .before .before .before .before .before .args .broken .now) (c .before .before .before .before .before .before .before .before .before .before .before .before .before .before .before .before .before .before .before .before .before .before .before .args .held .now)) (c .before .before .before .before .before .before .before .before .before .before .before .before .before .before .before .before .before .before .before .before .before .before .before .args .heights .now) (c .before .before .before .before .before .before .before .before .before .before .before .before .before .before .before .before .before .before .before .before .before .before .before .args .blinds .now) _ _ (Guards.guardedStep (c .before .before .before .before .before .before .before .before .before .before .before .before .before .before .before .before .before .before .guard-at .result) 1 (at (c .before .before .before .before .before .before .before .before .before .before .before .before .before .before .before .before .before .before .before .before .before .before .before .args .height) (c .before .before .before .before .before .before .before .before .before .before .before .before .before .before .before .before .before .before .before .before .before .before .before .args .slots .now) (c .before .before .before .before .before .before .before .before .before .before .before .before .before .before .before .before .before .before .before .before .before .before .before .args .places .now))) (Guards.guard-examined (c .before .before .before .before .before .before .before .before .before .before .before .before .before .before .before .before .before .before .before .before .before .before .before .args .t .now) (c .before .before .before .before .before .before .before .before .before .before .before .before .before .before .before .before .before .before .before .before .before .before .before .args .x) (c .before .before .before .before .before .before .before .before .before .before .before .before .before .before .before .before .before .before .before .before .before .before .before .args .ip) (c .before .before .before .before .before .before .before .before .before .before .before .before .before .before .before .before .before .before .before .before .before .before .before .args .floor) (at (c .before .before .before .before .before .before .before .before .before .before .before .before .before .before .before .before .before .before .before .before .before .before .before .args .height) (c .before .before .before .before .before .before .before .before .before .before .before .before .before .before .before .before .before .before .before .before .before .before .before .args .slots .now) (c .before .before .before .before .before .before .before .before .before .before .before .before .before .before .before .before .before .before .before .before .before .before .before .args .places .now)) 1 _ _ (c .before .before .before .before .before .before .before .before .before .before .before .before .before .before .before .before .before .before .guard-at .result) (c .before .before .before .before .before .before .before .before .before .before .before .before .before .before .before .before .before .before .guard-at .ensures) (c .before .before .before .before .before .before .before .before .before .before .before .before .before .before .before .before .before .before .before .before .before .before .before .pre .1 .1 .1 .1) tt (Guards.one-needed (Visits.chunkIn (c .before .before .before .before .before .before .before .before .before .before .before .before .before .before .before .before .before .before .before .before .before .before .before .args .t .now) (c .before .before .before .before .before .before .before .before .before .before .before .before .before .before .before .before .before .before .before .before .before .before .before .args .x)) (Visits.instrIn (c .before .before .before .before .before .before .before .before .before .before .before .before .before .before .before .before .before .before .before .before .before .before .before .args .t .now) (c .before .before .before .before .before .before .before .before .before .before .before .before .before .before .before .before .before .before .before .before .before .before .before .args .x) (c .before .before .before .before .before .before .before .before .before .before .before .before .before .before .before .before .before .before .before .before .before .before .before .args .ip)) (c .before .before .before .before .before .before .before .before .before .before .before .before .before .before .before .before .before .before .before .before .before .before .before .pre .1 .1 .1 .1) refl tt) (c .before .before .before .before .before .before .before .before .before .before .before .before .before .before .before .before .before .before .before .before .before .before .before .pre .1 .0 .height-low)) (sym (c .before .before .before .before .before .before .before .before .before .before .before .before .before .before .before .passed .ensures) ∙ c .before .before .before .before .before .before .before .before .before .before .before .before .before .before .if1 .taken) (Guards.guard-marked (c .before .before .before .before .before .before .before .before .before .before .before .before .before .before .before .before .before .before .before .before .before .before .before .args .t .now) (c .before .before .before .before .before .before .before .before .before .before .before .before .before .before .before .before .before .before .before .before .before .before .before .args .x) (c .before .before .before .before .before .before .before .before .before .before .before .before .before .before .before .before .before .before .before .before .before .before .before .args .ip) (c .before .before .before .before .before .before .before .before .before .before .before .before .before .before .before .before .before .before .before .before .before .before .before .args .floor) (at (c .before .before .before .before .before .before .before .before .before .before .before .before .before .before .before .before .before .before .before .before .before .before .before .args .height) (c .before .before .before .before .before .before .before .before .before .before .before .before .before .before .before .before .before .before .before .before .before .before .before .args .slots .now) (c .before .before .before .before .before .before .before .before .before .before .before .before .before .before .before .before .before .before .before .before .before .before .before .args .places .now)) 1 _ _ (c .before .before .before .before .before .before .before .before .before .before .before .before .before .before .before .before .before .before .guard-at .result) (c .before .before .before .before .before .before .before .before .before .before .before .before .before .before .before .before .before .before .guard-at .ensures) (c .before .before .before .before .before .before .before .before .before .before .before .before .before .before .before .before .before .before .before .before .before .before .before .pre .1 .1 .1 .1) tt (Guards.one-needed (Visits.chunkIn (c .before .before .before .before .before .before .before .before .before .before .before .before .before .before .before .before .before .before .before .before .before .before .before .args .t .now) (c .before .before .before .before .before .before .before .before .before .before .before .before .before .before .before .before .before .before .before .before .before .before .before .args .x)) (Visits.instrIn (c .before .before .before .before .before .before .before .before .before .before .before .before .before .before .before .before .before .before .before .before .before .before .before .args .t .now) (c .before .before .before .before .before .before .before .before .before .before .before .before .before .before .before .before .before .before .before .before .before .before .before .args .x) (c .before .before .before .before .before .before .before .before .before .before .before .before .before .before .before .before .before .before .before .before .before .before .before .args .ip)) (c .before .before .before .before .before .before .before .before .before .before .before .before .before .before .before .before .before .before .before .before .before .before .before .pre .1 .1 .1 .1) refl tt) (c .before .before .before .before .before .before .before .before .before .before .before .before .before .before .before .before .before .before .before .before .before .before .before .pre .1 .0 .height-low) (c .before .before .before .before .before .before .before .before .before .before .before .before .before .before .before .before .before .before .before .before .before .before .before .args .blinds .now) (c .before .before .before .before .before .before .before .before .before .before .before .before .before .before .before .before .before .before .before .before .before .before .before .pre .1 .0 .placed .of .first)) (onwardIn (c .before .before .before .before .one-arm .result) (c .before .before .before .before .one-arm .last .1 .1 .1 .0) (c .before .before .before .before .one-arm .last .1 .1 .1 .1 .0) (c .before .before .before .before .one-arm .last .1 .1 .1 .1 .1 .0) (c .before .before .before .before .one-arm .last .1 .1 .1 .1 .1 .1 .0)) _ (c .before .before .before .before .one-arm .ensures .2), c .before .before .before .before .one-arm .ensures .3)
+if-at-returns-2 t c =
+    (c .before .before .before .before .one-arm .ensures .0, c .before .before .before .before .one-arm .ensures .1, Cycle.if-passed (c .before .before .before .before .before .before .before .before .before .before .before .before .before .before .before .before .before .before .before .before .before .before .before .args .t .now) (c .before .before .before .before .before .before .before .before .before .before .before .before .before .before .before .before .before .before .before .before .before .before .before .args .x) (c .before .before .before .before .before .before .before .before .before .before .before .before .before .before .before .before .before .before .before .before .before .before .before .args .target) (c .before .before .before .before .before .before .before .before .before .before .before .before .before .before .before .before .before .before .before .before .before .before .before .args .ip) (c .before .before .before .before .before .before .before .before .before .before .before .before .before .before .before .before .before .before .before .before .before .before .before .args .end) (c .before .before .before .before .before .before .before .before .before .before .before .before .before .before .before .before .before .before .before .before .before .before .before .args .floor) (at (c .before .before .before .before .before .before .before .before .before .before .before .before .before .before .before .before .before .before .before .before .before .before .before .args .height) (c .before .before .before .before .before .before .before .before .before .before .before .before .before .before .before .before .before .before .before .before .before .before .before .args .slots .now) (c .before .before .before .before .before .before .before .before .before .before .before .before .before .before .before .before .before .before .before .before .before .before .before .args .places .now)) (breaksIn (c .before .before .before .before .before .before .before .before .before .before .before .before .before .before .before .before .before .before .before .before .before .before .before .args .b) (c .before .before .before .before .before .before .before .before .before .before .before .before .before .before .before .before .before .before .before .before .before .before .before .args .broken .now) (c .before .before .before .before .before .before .before .before .before .before .before .before .before .before .before .before .before .before .before .before .before .before .before .args .held .now)) (c .before .before .before .before .before .before .before .before .before .before .before .before .before .before .before .before .before .before .before .before .before .before .before .args .heights .now) (c .before .before .before .before .before .before .before .before .before .before .before .before .before .before .before .before .before .before .before .before .before .before .before .args .blinds .now) _ _ (Guards.guardedStep
+    (c .before .before .before .before .before .before .before .before .before .before .before .before .before .before .before .before .before .before .guard-at .result) 1 (at (c .before .before .before .before .before .before .before .before .before .before .before .before .before .before .before .before .before .before .before .before .before .before .before .args .height) (c .before .before .before .before .before .before .before .before .before .before .before .before .before .before .before .before .before .before .before .before .before .before .before .args .slots .now) (c .before .before .before .before .before .before .before .before .before .before .before .before .before .before .before .before .before .before .before .before .before .before .before .args .places .now))) (Guards.guard-examined (c .before .before .before .before .before .before .before .before .before .before .before .before .before .before .before .before .before .before .before .before .before .before .before .args .t .now) (c .before .before .before .before .before .before .before .before .before .before .before .before .before .before .before .before .before .before .before .before .before .before .before .args .x) (c .before .before .before .before .before .before .before .before .before .before .before .before .before .before .before .before .before .before .before .before .before .before .before .args .ip) (c .before .before .before .before .before .before .before .before .before .before .before .before .before .before .before .before .before .before .before .before .before .before .before .args .floor) (at (c .before .before .before .before .before .before .before .before .before .before .before .before .before .before .before .before .before .before .before .before .before .before .before .args .height) (c .before .before .before .before .before .before .before .before .before .before .before .before .before .before .before .before .before .before .before .before .before .before .before .args .slots .now) (c .before .before .before .before .before .before .before .before .before .before .before .before .before .before .before .before .before .before .before .before .before .before .before .args .places .now)) 1 _ _ (c .before .before .before .before .before .before .before .before .before .before .before .before .before .before .before .before .before .before .guard-at .result) (c .before .before .before .before .before .before .before .before .before .before .before .before .before .before .before .before .before .before .guard-at .ensures) (c .before .before .before .before .before .before .before .before .before .before .before .before .before .before .before .before .before .before .before .before .before .before .before .pre .1 .1 .1 .1) tt (Guards.one-needed (Visits.chunkIn (c .before .before .before .before .before .before .before .before .before .before .before .before .before .before .before .before .before .before .before .before .before .before .before .args .t .now) (c .before .before .before .before .before .before .before .before .before .before .before .before .before .before .before .before .before .before .before .before .before .before .before .args .x)) (Visits.instrIn (c .before .before .before .before .before .before .before .before .before .before .before .before .before .before .before .before .before .before .before .before .before .before .before .args .t .now) (c .before .before .before .before .before .before .before .before .before .before .before .before .before .before .before .before .before .before .before .before .before .before .before .args .x) (c .before .before .before .before .before .before .before .before .before .before .before .before .before .before .before .before .before .before .before .before .before .before .before .args .ip)) (c .before .before .before .before .before .before .before .before .before .before .before .before .before .before .before .before .before .before .before .before .before .before .before .pre .1 .1 .1 .1) refl tt) (c .before .before .before .before .before .before .before .before .before .before .before .before .before .before .before .before .before .before .before .before .before .before .before .pre .1 .0 .height-low)) (sym (passed-yes _ (c .before .before .before .before .before .before .before .before .before .before .before .before .before .before .enum-told .given .1))) (Guards.guard-marked (c .before .before .before .before .before .before .before .before .before .before .before .before .before .before .before .before .before .before .before .before .before .before .before .args .t .now) (c .before .before .before .before .before .before .before .before .before .before .before .before .before .before .before .before .before .before .before .before .before .before .before .args .x) (c .before .before .before .before .before .before .before .before .before .before .before .before .before .before .before .before .before .before .before .before .before .before .before .args .ip) (c .before .before .before .before .before .before .before .before .before .before .before .before .before .before .before .before .before .before .before .before .before .before .before .args .floor) (at (c .before .before .before .before .before .before .before .before .before .before .before .before .before .before .before .before .before .before .before .before .before .before .before .args .height) (c .before .before .before .before .before .before .before .before .before .before .before .before .before .before .before .before .before .before .before .before .before .before .before .args .slots .now) (c .before .before .before .before .before .before .before .before .before .before .before .before .before .before .before .before .before .before .before .before .before .before .before .args .places .now)) 1 _ _ (c .before .before .before .before .before .before .before .before .before .before .before .before .before .before .before .before .before .before .guard-at .result) (c .before .before .before .before .before .before .before .before .before .before .before .before .before .before .before .before .before .before .guard-at .ensures) (c .before .before .before .before .before .before .before .before .before .before .before .before .before .before .before .before .before .before .before .before .before .before .before .pre .1 .1 .1 .1) tt (Guards.one-needed (Visits.chunkIn (c .before .before .before .before .before .before .before .before .before .before .before .before .before .before .before .before .before .before .before .before .before .before .before .args .t .now) (c .before .before .before .before .before .before .before .before .before .before .before .before .before .before .before .before .before .before .before .before .before .before .before .args .x)) (Visits.instrIn (c .before .before .before .before .before .before .before .before .before .before .before .before .before .before .before .before .before .before .before .before .before .before .before .args .t .now) (c .before .before .before .before .before .before .before .before .before .before .before .before .before .before .before .before .before .before .before .before .before .before .before .args .x) (c .before .before .before .before .before .before .before .before .before .before .before .before .before .before .before .before .before .before .before .before .before .before .before .args .ip)) (c .before .before .before .before .before .before .before .before .before .before .before .before .before .before .before .before .before .before .before .before .before .before .before .pre .1 .1 .1 .1) refl tt) (c .before .before .before .before .before .before .before .before .before .before .before .before .before .before .before .before .before .before .before .before .before .before .before .pre .1 .0 .height-low) (c .before .before .before .before .before .before .before .before .before .before .before .before .before .before .before .before .before .before .before .before .before .before .before .args .blinds .now) (c .before .before .before .before .before .before .before .before .before .before .before .before .before .before .before .before .before .before .before .before .before .before .before .pre .1 .0 .placed .of .first)) (onwardIn (c .before .before .before .before .one-arm .result) (c .before .before .before .before .one-arm .last .1 .1 .1 .0)
+    (c .before .before .before .before .one-arm .last .1 .1 .1 .1 .0) (c .before .before .before .before .one-arm .last .1 .1 .1 .1 .1 .0) (c .before .before .before .before .one-arm .last .1 .1 .1 .1 .1 .1 .0)) _ (c .before .before .before .before .one-arm .ensures .2),
+    c .before .before .before .before .one-arm .ensures .3)
 
--- src/lib.rt:201:1
+-- src/lib.rt:202:1
 if-at-same-length-4 : (t : ℕ) → if-at-lts.Need-same-length-4 (
   guard-at-reads.Asked,
   guard-at-reads.Learnt,
-  passed-reads.Asked,
-  passed-reads.Learnt,
   refused-at-reads.Asked,
   refused-at-reads.Learnt,
   layout-of-reads.Asked,
@@ -572,12 +578,10 @@ if-at-same-length-4 : (t : ℕ) → if-at-lts.Need-same-length-4 (
 ) (if-at-at t) if-at.Post
 if-at-same-length-4 t c = search needs
 
--- src/lib.rt:201:1
+-- src/lib.rt:202:1
 if-at-same-length-5 : (t : ℕ) → if-at-lts.Need-same-length-5 (
   guard-at-reads.Asked,
   guard-at-reads.Learnt,
-  passed-reads.Asked,
-  passed-reads.Learnt,
   refused-at-reads.Asked,
   refused-at-reads.Learnt,
   layout-of-reads.Asked,
@@ -589,12 +593,10 @@ if-at-same-length-5 : (t : ℕ) → if-at-lts.Need-same-length-5 (
 ) (if-at-at t) if-at.Post
 if-at-same-length-5 t c = search needs
 
--- src/lib.rt:201:1
+-- src/lib.rt:202:1
 if-at-returns-3 : (t : ℕ) → if-at-lts.Need-returns-3 (
   guard-at-reads.Asked,
   guard-at-reads.Learnt,
-  passed-reads.Asked,
-  passed-reads.Learnt,
   refused-at-reads.Asked,
   refused-at-reads.Learnt,
   layout-of-reads.Asked,
@@ -604,15 +606,21 @@ if-at-returns-3 : (t : ℕ) → if-at-lts.Need-returns-3 (
   two-arms-below t,
   two-arms.Post,
 ) (if-at-at t) if-at.Post
-if-at-returns-3 t c = (c .before .before .before .before .two-arms .ensures .0, c .before .before .before .before .two-arms .ensures .1, Cycle.if-passed (c .before .before .before .before .before .before .before .before .before .before .before .before .before .before .before .before .before .before .before .before .before .before .before .before .args .t .now) (c .before .before .before .before .before .before .before .before .before .before .before .before .before .before .before .before .before .before .before .before .before .before .before .before .args .x) (c .before .before .before .before .before .before .before .before .before .before .before .before .before .before .before .before .before .before .before .before .before .before .before .before .args .target) (c .before .before .before .before .before .before .before .before .before .before .before .before .before .before .before .before .before .before .before .before .before .before .before .before .args .ip) (c .before .before .before .before .before .before .before .before .before .before .before .before .before .before .before .before .before .before .before .before .before .before .before .before .args .end) (c .before .before .before .before .before .before .before .before .before .before .before .before .before .before .before .before .before .before .before .before .before .before .before .before .args .floor) (at (c .before .before .before .before .before .before .before .before .before .before .before .before .before .before .before .before .before .before .before .before .before .before .before .before .args .height) (c .before .before .before .before .before .before .before .before .before .before .before .before .before .before .before .before .before .before .before .before .before .before .before .before .args .slots .now) (c .before .before .before .before .before .before .before .before .before .before .before .before .before .before .before .before .before .before .before .before .before .before .before .before .args .places .now)) (breaksIn (c .before .before .before .before .before .before .before .before .before .before .before .before .before .before .before .before .before .before .before .before .before .before .before .before .args .b) (c .before .before .before .before .before .before .before .before .before .before .before .before .before .before .before .before .before .before .before .before .before .before .before .before .args .broken .now) (c .before .before .before .before .before .before .before .before .before .before .before .before .before .before .before .before .before .before .before .before .before .before .before .before .args .held .now)) (c .before .before .before .before .before .before .before .before .before .before .before .before .before .before .before .before .before .before .before .before .before .before .before .before .args .heights .now) (c .before .before .before .before .before .before .before .before .before .before .before .before .before .before .before .before .before .before .before .before .before .before .before .before .args .blinds .now) _ _ (Guards.guardedStep (c .before .before .before .before .before .before .before .before .before .before .before .before .before .before .before .before .before .before .before .guard-at .result) 1 (at (c .before .before .before .before .before .before .before .before .before .before .before .before .before .before .before .before .before .before .before .before .before .before .before .before .args .height) (c .before .before .before .before .before .before .before .before .before .before .before .before .before .before .before .before .before .before .before .before .before .before .before .before .args .slots .now) (c .before .before .before .before .before .before .before .before .before .before .before .before .before .before .before .before .before .before .before .before .before .before .before .before .args .places .now))) (Guards.guard-examined (c .before .before .before .before .before .before .before .before .before .before .before .before .before .before .before .before .before .before .before .before .before .before .before .before .args .t .now) (c .before .before .before .before .before .before .before .before .before .before .before .before .before .before .before .before .before .before .before .before .before .before .before .before .args .x) (c .before .before .before .before .before .before .before .before .before .before .before .before .before .before .before .before .before .before .before .before .before .before .before .before .args .ip) (c .before .before .before .before .before .before .before .before .before .before .before .before .before .before .before .before .before .before .before .before .before .before .before .before .args .floor) (at (c .before .before .before .before .before .before .before .before .before .before .before .before .before .before .before .before .before .before .before .before .before .before .before .before .args .height) (c .before .before .before .before .before .before .before .before .before .before .before .before .before .before .before .before .before .before .before .before .before .before .before .before .args .slots .now) (c .before .before .before .before .before .before .before .before .before .before .before .before .before .before .before .before .before .before .before .before .before .before .before .before .args .places .now)) 1 _ _ (c .before .before .before .before .before .before .before .before .before .before .before .before .before .before .before .before .before .before .before .guard-at .result) (c .before .before .before .before .before .before .before .before .before .before .before .before .before .before .before .before .before .before .before .guard-at .ensures) (c .before .before .before .before .before .before .before .before .before .before .before .before .before .before .before .before .before .before .before .before .before .before .before .before .pre .1 .1 .1 .1) tt (Guards.one-needed (Visits.chunkIn (c .before .before .before .before .before .before .before .before .before .before .before .before .before .before .before .before .before .before .before .before .before .before .before .before .args .t .now) (c .before .before .before .before .before .before .before .before .before .before .before .before .before .before .before .before .before .before .before .before .before .before .before .before .args .x)) (Visits.instrIn (c .before .before .before .before .before .before .before .before .before .before .before .before .before .before .before .before .before .before .before .before .before .before .before .before .args .t .now) (c .before .before .before .before .before .before .before .before .before .before .before .before .before .before .before .before .before .before .before .before .before .before .before .before .args .x) (c .before .before .before .before .before .before .before .before .before .before .before .before .before .before .before .before .before .before .before .before .before .before .before .before .args .ip)) (c .before .before .before .before .before .before .before .before .before .before .before .before .before .before .before .before .before .before .before .before .before .before .before .before .pre .1 .1 .1 .1) refl tt) (c .before .before .before .before .before .before .before .before .before .before .before .before .before .before .before .before .before .before .before .before .before .before .before .before .pre .1 .0 .height-low)) (sym (c .before .before .before .before .before .before .before .before .before .before .before .before .before .before .before .before .passed .ensures) ∙ c .before .before .before .before .before .before .before .before .before .before .before .before .before .before .before .if1 .taken) (Guards.guard-marked (c .before .before .before .before .before .before .before .before .before .before .before .before .before .before .before .before .before .before .before .before .before .before .before .before .args .t .now) (c .before .before .before .before .before .before .before .before .before .before .before .before .before .before .before .before .before .before .before .before .before .before .before .before .args .x) (c .before .before .before .before .before .before .before .before .before .before .before .before .before .before .before .before .before .before .before .before .before .before .before .before .args .ip) (c .before .before .before .before .before .before .before .before .before .before .before .before .before .before .before .before .before .before .before .before .before .before .before .before .args .floor) (at (c .before .before .before .before .before .before .before .before .before .before .before .before .before .before .before .before .before .before .before .before .before .before .before .before .args .height) (c .before .before .before .before .before .before .before .before .before .before .before .before .before .before .before .before .before .before .before .before .before .before .before .before .args .slots .now) (c .before .before .before .before .before .before .before .before .before .before .before .before .before .before .before .before .before .before .before .before .before .before .before .before .args .places .now)) 1 _ _ (c .before .before .before .before .before .before .before .before .before .before .before .before .before .before .before .before .before .before .before .guard-at .result) (c .before .before .before .before .before .before .before .before .before .before .before .before .before .before .before .before .before .before .before .guard-at .ensures) (c .before .before .before .before .before .before .before .before .before .before .before .before .before .before .before .before .before .before .before .before .before .before .before .before .pre .1 .1 .1 .1) tt (Guards.one-needed (Visits.chunkIn (c .before .before .before .before .before .before .before .before .before .before .before .before .before .before .before .before .before .before .before .before .before .before .before .before .args .t .now) (c .before .before .before .before .before .before .before .before .before .before .before .before .before .before .before .before .before .before .before .before .before .before .before .before .args .x)) (Visits.instrIn (c .before .before .before .before .before .before .before .before .before .before .before .before .before .before .before .before .before .before .before .before .before .before .before .before .args .t .now) (c .before .before .before .before .before .before .before .before .before .before .before .before .before .before .before .before .before .before .before .before .before .before .before .before .args .x) (c .before .before .before .before .before .before .before .before .before .before .before .before .before .before .before .before .before .before .before .before .before .before .before .before .args .ip)) (c .before .before .before .before .before .before .before .before .before .before .before .before .before .before .before .before .before .before .before .before .before .before .before .before .pre .1 .1 .1 .1) refl tt) (c .before .before .before .before .before .before .before .before .before .before .before .before .before .before .before .before .before .before .before .before .before .before .before .before .pre .1 .0 .height-low) (c .before .before .before .before .before .before .before .before .before .before .before .before .before .before .before .before .before .before .before .before .before .before .before .before .args .blinds .now) (c .before .before .before .before .before .before .before .before .before .before .before .before .before .before .before .before .before .before .before .before .before .before .before .before .pre .1 .0 .placed .of .first)) (onwardIn (c .before .before .before .before .two-arms .result) (c .before .before .before .before .two-arms .last .1 .1 .1 .0) (c .before .before .before .before .two-arms .last .1 .1 .1 .1 .0) (c .before .before .before .before .two-arms .last .1 .1 .1 .1 .1 .0) (c .before .before .before .before .two-arms .last .1 .1 .1 .1 .1 .1 .0)) _ (c .before .before .before .before .two-arms .ensures .2), c .before .before .before .before .two-arms .ensures .3)
+if-at-returns-3 t c =
+    (c .before .before .before .before .two-arms .ensures .0, c .before .before .before .before .two-arms .ensures .1, Cycle.if-passed (c .before .before .before .before .before .before .before .before .before .before .before .before .before .before .before .before .before .before .before .before .before .before .before .before .args .t .now) (c .before .before .before .before .before .before .before .before .before .before .before .before .before .before .before .before .before .before .before .before .before .before .before .before .args .x) (c .before .before .before .before .before .before .before .before .before .before .before .before .before .before .before .before .before .before .before .before .before .before .before .before .args .target) (c .before .before .before .before .before .before .before .before .before .before .before .before .before .before .before .before .before .before .before .before .before .before .before .before .args .ip) (c .before .before .before .before .before .before .before .before .before .before .before .before .before .before .before .before .before .before .before .before .before .before .before .before .args .end) (c .before .before .before .before .before .before .before .before .before .before .before .before .before .before .before .before .before .before .before .before .before .before .before .before .args .floor) (at (c .before .before .before .before .before .before .before .before .before .before .before .before .before .before .before .before .before .before .before .before .before .before .before .before .args .height) (c .before .before .before .before .before .before .before .before .before .before .before .before .before .before .before .before .before .before .before .before .before .before .before .before .args .slots .now) (c .before .before .before .before .before .before .before .before .before .before .before .before .before .before .before .before .before .before .before .before .before .before .before .before .args .places .now)) (breaksIn (c .before .before .before .before .before .before .before .before .before .before .before .before .before .before .before .before .before .before .before .before .before .before .before .before .args .b) (c .before .before .before .before .before .before .before .before .before .before .before .before .before .before .before .before .before .before .before .before .before .before .before .before .args .broken .now) (c .before .before .before .before .before .before .before .before .before .before .before .before .before .before .before .before .before .before .before .before .before .before .before .before .args .held .now)) (c .before .before .before .before .before .before .before .before .before .before .before .before .before .before .before .before .before .before .before .before .before .before .before .before .args .heights .now) (c .before .before .before .before .before .before .before .before .before .before .before .before .before .before .before .before .before .before .before .before .before .before .before .before .args .blinds .now) _ _ (Guards.guardedStep
+    (c .before .before .before .before .before .before .before .before .before .before .before .before .before .before .before .before .before .before .before .guard-at .result) 1 (at (c .before .before .before .before .before .before .before .before .before .before .before .before .before .before .before .before .before .before .before .before .before .before .before .before .args .height) (c .before .before .before .before .before .before .before .before .before .before .before .before .before .before .before .before .before .before .before .before .before .before .before .before .args .slots .now) (c .before .before .before .before .before .before .before .before .before .before .before .before .before .before .before .before .before .before .before .before .before .before .before .before .args .places .now))) (Guards.guard-examined (c .before .before .before .before .before .before .before .before .before .before .before .before .before .before .before .before .before .before .before .before .before .before .before .before .args .t .now) (c .before .before .before .before .before .before .before .before .before .before .before .before .before .before .before .before .before .before .before .before .before .before .before .before .args .x) (c .before .before .before .before .before .before .before .before .before .before .before .before .before .before .before .before .before .before .before .before .before .before .before .before .args .ip) (c .before .before .before .before .before .before .before .before .before .before .before .before .before .before .before .before .before .before .before .before .before .before .before .before .args .floor) (at (c .before .before .before .before .before .before .before .before .before .before .before .before .before .before .before .before .before .before .before .before .before .before .before .before .args .height) (c .before .before .before .before .before .before .before .before .before .before .before .before .before .before .before .before .before .before .before .before .before .before .before .before .args .slots .now) (c .before .before .before .before .before .before .before .before .before .before .before .before .before .before .before .before .before .before .before .before .before .before .before .before .args .places .now)) 1 _ _ (c .before .before .before .before .before .before .before .before .before .before .before .before .before .before .before .before .before .before .before .guard-at .result) (c .before .before .before .before .before .before .before .before .before .before .before .before .before .before .before .before .before .before .before .guard-at .ensures) (c .before .before .before .before .before .before .before .before .before .before .before .before .before .before .before .before .before .before .before .before .before .before .before .before .pre .1 .1 .1 .1) tt (Guards.one-needed (Visits.chunkIn (c .before .before .before .before .before .before .before .before .before .before .before .before .before .before .before .before .before .before .before .before .before .before .before .before .args .t .now) (c .before .before .before .before .before .before .before .before .before .before .before .before .before .before .before .before .before .before .before .before .before .before .before .before .args .x)) (Visits.instrIn (c .before .before .before .before .before .before .before .before .before .before .before .before .before .before .before .before .before .before .before .before .before .before .before .before .args .t .now) (c .before .before .before .before .before .before .before .before .before .before .before .before .before .before .before .before .before .before .before .before .before .before .before .before .args .x) (c .before .before .before .before .before .before .before .before .before .before .before .before .before .before .before .before .before .before .before .before .before .before .before .before .args .ip)) (c .before .before .before .before .before .before .before .before .before .before .before .before .before .before .before .before .before .before .before .before .before .before .before .before .pre .1 .1 .1 .1) refl tt) (c .before .before .before .before .before .before .before .before .before .before .before .before .before .before .before .before .before .before .before .before .before .before .before .before .pre .1 .0 .height-low)) (sym (passed-yes _ (c .before .before .before .before .before .before .before .before .before .before .before .before .before .before .before .enum-told .given .1))) (Guards.guard-marked (c .before .before .before .before .before .before .before .before .before .before .before .before .before .before .before .before .before .before .before .before .before .before .before .before .args .t .now) (c .before .before .before .before .before .before .before .before .before .before .before .before .before .before .before .before .before .before .before .before .before .before .before .before .args .x) (c .before .before .before .before .before .before .before .before .before .before .before .before .before .before .before .before .before .before .before .before .before .before .before .before .args .ip) (c .before .before .before .before .before .before .before .before .before .before .before .before .before .before .before .before .before .before .before .before .before .before .before .before .args .floor) (at (c .before .before .before .before .before .before .before .before .before .before .before .before .before .before .before .before .before .before .before .before .before .before .before .before .args .height) (c .before .before .before .before .before .before .before .before .before .before .before .before .before .before .before .before .before .before .before .before .before .before .before .before .args .slots .now) (c .before .before .before .before .before .before .before .before .before .before .before .before .before .before .before .before .before .before .before .before .before .before .before .before .args .places .now)) 1 _ _ (c .before .before .before .before .before .before .before .before .before .before .before .before .before .before .before .before .before .before .before .guard-at .result) (c .before .before .before .before .before .before .before .before .before .before .before .before .before .before .before .before .before .before .before .guard-at .ensures) (c .before .before .before .before .before .before .before .before .before .before .before .before .before .before .before .before .before .before .before .before .before .before .before .before .pre .1 .1 .1 .1) tt (Guards.one-needed (Visits.chunkIn (c .before .before .before .before .before .before .before .before .before .before .before .before .before .before .before .before .before .before .before .before .before .before .before .before .args .t .now) (c .before .before .before .before .before .before .before .before .before .before .before .before .before .before .before .before .before .before .before .before .before .before .before .before .args .x)) (Visits.instrIn (c .before .before .before .before .before .before .before .before .before .before .before .before .before .before .before .before .before .before .before .before .before .before .before .before .args .t .now) (c .before .before .before .before .before .before .before .before .before .before .before .before .before .before .before .before .before .before .before .before .before .before .before .before .args .x) (c .before .before .before .before .before .before .before .before .before .before .before .before .before .before .before .before .before .before .before .before .before .before .before .before .args .ip)) (c .before .before .before .before .before .before .before .before .before .before .before .before .before .before .before .before .before .before .before .before .before .before .before .before .pre .1 .1 .1 .1) refl tt) (c .before .before .before .before .before .before .before .before .before .before .before .before .before .before .before .before .before .before .before .before .before .before .before .before .pre .1 .0 .height-low) (c .before .before .before .before .before .before .before .before .before .before .before .before .before .before .before .before .before .before .before .before .before .before .before .before .args .blinds .now) (c .before .before .before .before .before .before .before .before .before .before .before .before .before .before .before .before .before .before .before .before .before .before .before .before .pre .1 .0 .placed .of .first)) (onwardIn (c .before .before .before .before .two-arms .result) (c .before .before .before .before .two-arms .last .1 .1 .1 .0)
+    (c .before .before .before .before .two-arms .last .1 .1 .1 .1 .0) (c .before .before .before .before .two-arms .last .1 .1 .1 .1 .1 .0) (c .before .before .before .before .two-arms .last .1 .1 .1 .1 .1 .1 .0)) _ (c .before .before .before .before .two-arms .ensures .2),
+    c .before .before .before .before .two-arms .ensures .3)
 
 abbrev interp-region-Inv-loop : interp-region-lts.InvT-loop
-interp-region-Inv-loop t heights₀ blinds₀ slots₀ places₀ broken₀ held₀ x start end floor height first ip₀ h₀ k₀ heights blinds slots places broken held ip h k = Long slots places × Long broken held × Cycle.Walking t heights₀ blinds₀ x start end floor (at height slots₀ places₀) (breaksIn k₀ broken₀ held₀) heights blinds ip (at h slots places) (breaksIn k broken held)
+interp-region-Inv-loop t heights₀ blinds₀ slots₀ places₀ broken₀ held₀ x start end floor height first ip₀ h₀ k₀ heights blinds slots places broken held ip h k =
+    Long slots places × Long broken held × Cycle.Walking t heights₀ blinds₀ x start end floor (at height slots₀ places₀) (breaksIn k₀ broken₀ held₀) heights blinds
+    ip (at h slots places) (breaksIn k broken held)
 
 abbrev interp-region-μ-loop : interp-region-lts.MeasureT-loop
 interp-region-μ-loop t heights₀ blinds₀ slots₀ places₀ broken₀ held₀ x start end floor height first ip₀ h₀ k₀ heights blinds slots places broken held ip h k = end - ip
 
--- src/lib.rt:54:5
+-- src/lib.rt:55:5
 interp-region-loop-holds : (t : ℕ) → interp-region-lts.Need-loop-holds (
   instr-at-reads.Asked,
   instr-at-reads.Learnt,
@@ -620,14 +628,12 @@ interp-region-loop-holds : (t : ℕ) → interp-region-lts.Need-loop-holds (
   is-straight-reads.Learnt,
   step-reads.Asked,
   step-reads.Learnt,
-  passed-reads.Asked,
-  passed-reads.Learnt,
   block-at-below t,
   block-at.Post,
 ) (interp-region-at t) interp-region.Post interp-region-Inv-loop interp-region-μ-loop
 interp-region-loop-holds t c = (c .before .before .before .pre .1 .1 .0, c .before .before .before .pre .1 .1 .1, record { ready = c .before .before .before .pre .1 .0; onward = omega arith; heights-same = refl; blinds-same = refl; on = refl })
 
--- src/lib.rt:55:39
+-- src/lib.rt:56:39
 interp-region-add-instr-at : (t : ℕ) → interp-region-lts.Need-add-instr-at (
   instr-at-reads.Asked,
   instr-at-reads.Learnt,
@@ -635,14 +641,14 @@ interp-region-add-instr-at : (t : ℕ) → interp-region-lts.Need-add-instr-at (
   is-straight-reads.Learnt,
   step-reads.Asked,
   step-reads.Learnt,
-  passed-reads.Asked,
-  passed-reads.Learnt,
   block-at-below t,
   block-at.Post,
 ) (interp-region-at t) interp-region.Post interp-region-Inv-loop interp-region-μ-loop
-interp-region-add-instr-at t c = omega (arith, Cycle.inside (c .before .before .before .before .before .args .t .now) (c .before .loop .heights) (c .before .loop .blinds) (c .before .before .before .before .before .args .x) (c .before .loop .ip) (c .before .before .before .before .before .args .end) (c .before .before .before .before .before .args .floor) _ _ ((c .before .loop .inv .2) .ready) (c .loop-test .taken), c .before .before .before .before .before .pre .1 .0 .placed .of .within)
+interp-region-add-instr-at t c =
+    omega (arith, Cycle.inside (c .before .before .before .before .before .args .t .now) (c .before .loop .heights) (c .before .loop .blinds) (c .before .before .before .before .before .args .x) (c .before .loop .ip) (c .before .before .before .before .before .args .end) (c .before .before .before .before .before .args .floor) _ _ ((c .before .loop .inv .2) .ready) (c .loop-test .taken),
+    c .before .before .before .before .before .pre .1 .0 .placed .of .within)
 
--- src/lib.rt:55:13
+-- src/lib.rt:56:13
 interp-region-instr-at-requires : (t : ℕ) → interp-region-lts.Need-instr-at-requires (
   instr-at-reads.Asked,
   instr-at-reads.Learnt,
@@ -650,14 +656,14 @@ interp-region-instr-at-requires : (t : ℕ) → interp-region-lts.Need-instr-at-
   is-straight-reads.Learnt,
   step-reads.Asked,
   step-reads.Learnt,
-  passed-reads.Asked,
-  passed-reads.Learnt,
   block-at-below t,
   block-at.Post,
 ) (interp-region-at t) interp-region.Post interp-region-Inv-loop interp-region-μ-loop
-interp-region-instr-at-requires t c κs = omega (arith, Cycle.inside (c .before .before .before .before .before .args .t .now) (c .before .loop .heights) (c .before .loop .blinds) (c .before .before .before .before .before .args .x) (c .before .loop .ip) (c .before .before .before .before .before .args .end) (c .before .before .before .before .before .args .floor) _ _ ((c .before .loop .inv .2) .ready) (c .loop-test .taken), c .before .before .before .before .before .pre .1 .0 .placed .of .within)
+interp-region-instr-at-requires t c κs =
+    omega (arith, Cycle.inside (c .before .before .before .before .before .args .t .now) (c .before .loop .heights) (c .before .loop .blinds) (c .before .before .before .before .before .args .x) (c .before .loop .ip) (c .before .before .before .before .before .args .end) (c .before .before .before .before .before .args .floor) _ _ ((c .before .loop .inv .2) .ready) (c .loop-test .taken),
+    c .before .before .before .before .before .pre .1 .0 .placed .of .within)
 
--- src/lib.rt:58:12
+-- src/lib.rt:59:12
 interp-region-is-straight-requires : (t : ℕ) → interp-region-lts.Need-is-straight-requires (
   instr-at-reads.Asked,
   instr-at-reads.Learnt,
@@ -665,14 +671,12 @@ interp-region-is-straight-requires : (t : ℕ) → interp-region-lts.Need-is-str
   is-straight-reads.Learnt,
   step-reads.Asked,
   step-reads.Learnt,
-  passed-reads.Asked,
-  passed-reads.Learnt,
   block-at-below t,
   block-at.Post,
 ) (interp-region-at t) interp-region.Post interp-region-Inv-loop interp-region-μ-loop
 interp-region-is-straight-requires t c κs = search needs
 
--- src/lib.rt:59:17
+-- src/lib.rt:60:17
 interp-region-step-requires : (t : ℕ) → interp-region-lts.Need-step-requires (
   instr-at-reads.Asked,
   instr-at-reads.Learnt,
@@ -680,132 +684,12 @@ interp-region-step-requires : (t : ℕ) → interp-region-lts.Need-step-requires
   is-straight-reads.Learnt,
   step-reads.Asked,
   step-reads.Learnt,
-  passed-reads.Asked,
-  passed-reads.Learnt,
   block-at-below t,
   block-at.Post,
 ) (interp-region-at t) interp-region.Post interp-region-Inv-loop interp-region-μ-loop
-interp-region-step-requires t c κs = ((c .before .before .before .before .before .before .before .before .loop .inv .2) .ready .placed .of, ((c .before .before .before .before .before .before .before .before .loop .inv .2) .ready .placed .heights-long, (c .before .before .before .before .before .before .before .before .loop .inv .2) .ready .placed .blinds-long, c .before .before .before .before .before .before .before .before .loop .inv .0, omega (arith, c .before .before .before .before .before .before .before .loop-test .taken), Cycle.end-inside _ _ _ _ _ _ _ _ _ ((c .before .before .before .before .before .before .before .before .loop .inv .2) .ready), c .before .before .before .before .before .before .before .before .before .before .before .before .pre .1 .0 .floor-low, (c .before .before .before .before .before .before .before .before .loop .inv .2) .ready .height-low))
-
--- src/lib.rt:61:16
-interp-region-passed-requires : (t : ℕ) → interp-region-lts.Need-passed-requires (
-  instr-at-reads.Asked,
-  instr-at-reads.Learnt,
-  is-straight-reads.Asked,
-  is-straight-reads.Learnt,
-  step-reads.Asked,
-  step-reads.Learnt,
-  passed-reads.Asked,
-  passed-reads.Learnt,
-  block-at-below t,
-  block-at.Post,
-) (interp-region-at t) interp-region.Post interp-region-Inv-loop interp-region-μ-loop
-interp-region-passed-requires t c κs = search needs
-
--- src/lib.rt:62:17
-interp-region-same-length : (t : ℕ) → interp-region-lts.Need-same-length (
-  instr-at-reads.Asked,
-  instr-at-reads.Learnt,
-  is-straight-reads.Asked,
-  is-straight-reads.Learnt,
-  step-reads.Asked,
-  step-reads.Learnt,
-  passed-reads.Asked,
-  passed-reads.Learnt,
-  block-at-below t,
-  block-at.Post,
-) (interp-region-at t) interp-region.Post interp-region-Inv-loop interp-region-μ-loop
-interp-region-same-length t c = search needs
-
--- src/lib.rt:62:17
-interp-region-same-length-2 : (t : ℕ) → interp-region-lts.Need-same-length-2 (
-  instr-at-reads.Asked,
-  instr-at-reads.Learnt,
-  is-straight-reads.Asked,
-  is-straight-reads.Learnt,
-  step-reads.Asked,
-  step-reads.Learnt,
-  passed-reads.Asked,
-  passed-reads.Learnt,
-  block-at-below t,
-  block-at.Post,
-) (interp-region-at t) interp-region.Post interp-region-Inv-loop interp-region-μ-loop
-interp-region-same-length-2 t c = search needs
-
--- src/lib.rt:62:17
-interp-region-returns : (t : ℕ) → interp-region-lts.Need-returns (
-  instr-at-reads.Asked,
-  instr-at-reads.Learnt,
-  is-straight-reads.Asked,
-  is-straight-reads.Learnt,
-  step-reads.Asked,
-  step-reads.Learnt,
-  passed-reads.Asked,
-  passed-reads.Learnt,
-  block-at-below t,
-  block-at.Post,
-) (interp-region-at t) interp-region.Post interp-region-Inv-loop interp-region-μ-loop
-interp-region-returns t c = (c .before .before .before .before .before .before .step .ensures .0, c .before .before .before .before .before .before .before .before .before .before .before .before .before .before .before .loop .inv .1, Cycle.walking-refused (c .before .before .before .before .before .before .before .before .before .before .before .before .before .before .before .before .before .before .before .args .t .now) (c .before .before .before .before .before .before .before .before .before .before .before .before .before .before .before .before .before .before .before .args .heights .now) (c .before .before .before .before .before .before .before .before .before .before .before .before .before .before .before .before .before .before .before .args .blinds .now) (c .before .before .before .before .before .before .before .before .before .before .before .before .before .before .before .before .before .before .before .args .x) (c .before .before .before .before .before .before .before .before .before .before .before .before .before .before .before .before .before .before .before .args .start) (c .before .before .before .before .before .before .before .before .before .before .before .before .before .before .before .before .before .before .before .args .end) (c .before .before .before .before .before .before .before .before .before .before .before .before .before .before .before .before .before .before .before .args .floor) (at (c .before .before .before .before .before .before .before .before .before .before .before .before .before .before .before .before .before .before .before .args .height) (c .before .before .before .before .before .before .before .before .before .before .before .before .before .before .before .before .before .before .before .args .slots .now) (c .before .before .before .before .before .before .before .before .before .before .before .before .before .before .before .before .before .before .before .args .places .now)) (breaksIn (c .before .before .before .before .before .before .before .before .before .before .before .before .before .before .before .before .before .before .before .args .b) (c .before .before .before .before .before .before .before .before .before .before .before .before .before .before .before .before .before .before .before .args .broken .now) (c .before .before .before .before .before .before .before .before .before .before .before .before .before .before .before .before .before .before .before .args .held .now)) (c .before .before .before .before .before .before .before .before .before .before .before .before .before .before .before .loop .heights) (c .before .before .before .before .before .before .before .before .before .before .before .before .before .before .before .loop .blinds) (c .before .before .before .before .before .before .before .before .before .before .before .before .before .before .before .loop .ip) (at (c .before .before .before .before .before .before .before .before .before .before .before .before .before .before .before .loop .h) (c .before .before .before .before .before .before .before .before .before .before .before .before .before .before .before .loop .slots) (c .before .before .before .before .before .before .before .before .before .before .before .before .before .before .before .loop .places)) (breaksIn (c .before .before .before .before .before .before .before .before .before .before .before .before .before .before .before .loop .k) (c .before .before .before .before .before .before .before .before .before .before .before .before .before .before .before .loop .broken) (c .before .before .before .before .before .before .before .before .before .before .before .before .before .before .before .loop .held)) (c .before .before .before .before .before .before .before .before .before .before .before .before .before .before .before .loop .inv .2) (c .before .before .before .before .before .before .step .result) _ _ _ (c .before .before .before .before .before .before .step .ensures .1) (sym (c .before .passed .ensures) ∙ c .if2 .left) (record { flow = Refused (c .before .before .before .before .before .before .step .result .verdict); state = at (c .before .before .before .before .before .before .before .before .before .before .before .before .before .before .before .loop .h) (c .before .before .before .before .before .before .step .last .1 .1 .1 .0) (c .before .before .before .before .before .before .step .last .1 .1 .1 .1 .0); breaks = breaksIn (c .before .before .before .before .before .before .before .before .before .before .before .before .before .before .before .loop .k) (c .before .before .before .before .before .before .before .before .before .before .before .before .before .before .before .loop .broken) (c .before .before .before .before .before .before .before .before .before .before .before .before .before .before .before .loop .held) }) _ refl, ((c .before .before .before .before .before .before .before .before .before .before .before .before .before .before .before .loop .inv .2) .ready .height-low, (c .before .before .before .before .before .before .before .before .before .before .before .before .before .before .before .loop .inv .2) .ready .breaks-low))
-
--- src/lib.rt:54:5
-interp-region-loop-less : (t : ℕ) → interp-region-lts.Need-loop-less (
-  instr-at-reads.Asked,
-  instr-at-reads.Learnt,
-  is-straight-reads.Asked,
-  is-straight-reads.Learnt,
-  step-reads.Asked,
-  step-reads.Learnt,
-  passed-reads.Asked,
-  passed-reads.Learnt,
-  block-at-below t,
-  block-at.Post,
-) (interp-region-at t) interp-region.Post interp-region-Inv-loop interp-region-μ-loop
-interp-region-loop-less t c = omega (arith, c .before .before .before .before .before .before .before .before .before .before .before .before .before .before .loop-test .taken, c .before .before .before .before .before .before .step .ensures .1 .moved (sym (c .before .passed .ensures) ∙ c .if2 .taken) (c .before .before .before .before .before .before .before .before .before .before .before .before .before .before .loop-test .taken) (Cycle.straight-here (c .before .before .before .before .before .before .before .before .before .before .before .before .before .before .before .before .before .before .before .args .t .now) (c .before .before .before .before .before .before .before .before .before .before .before .before .before .before .before .before .before .before .before .args .x) (c .before .before .before .before .before .before .before .before .before .before .before .before .before .before .before .loop .ip) _ (c .before .before .before .before .before .before .before .before .before .before .before .before .before .instr-at .ensures) _ (c .before .before .before .before .before .before .before .before .before .before .before .before .is-straight .ensures) (c .before .before .before .before .before .before .before .before .before .before .before .if1 .taken)), c .before .before .before .before .before .before .step .ensures .1 .to)
-
--- src/lib.rt:54:5
-interp-region-loop-again : (t : ℕ) → interp-region-lts.Need-loop-again (
-  instr-at-reads.Asked,
-  instr-at-reads.Learnt,
-  is-straight-reads.Asked,
-  is-straight-reads.Learnt,
-  step-reads.Asked,
-  step-reads.Learnt,
-  passed-reads.Asked,
-  passed-reads.Learnt,
-  block-at-below t,
-  block-at.Post,
-) (interp-region-at t) interp-region.Post interp-region-Inv-loop interp-region-μ-loop
-interp-region-loop-again t c = (c .before .before .before .before .before .before .step .ensures .0, c .before .before .before .before .before .before .before .before .before .before .before .before .before .before .before .loop .inv .1, Cycle.walking-ran (c .before .before .before .before .before .before .before .before .before .before .before .before .before .before .before .before .before .before .before .args .t .now) (c .before .before .before .before .before .before .before .before .before .before .before .before .before .before .before .before .before .before .before .args .heights .now) (c .before .before .before .before .before .before .before .before .before .before .before .before .before .before .before .before .before .before .before .args .blinds .now) (c .before .before .before .before .before .before .before .before .before .before .before .before .before .before .before .before .before .before .before .args .x) (c .before .before .before .before .before .before .before .before .before .before .before .before .before .before .before .before .before .before .before .args .start) (c .before .before .before .before .before .before .before .before .before .before .before .before .before .before .before .before .before .before .before .args .end) (c .before .before .before .before .before .before .before .before .before .before .before .before .before .before .before .before .before .before .before .args .floor) (at (c .before .before .before .before .before .before .before .before .before .before .before .before .before .before .before .before .before .before .before .args .height) (c .before .before .before .before .before .before .before .before .before .before .before .before .before .before .before .before .before .before .before .args .slots .now) (c .before .before .before .before .before .before .before .before .before .before .before .before .before .before .before .before .before .before .before .args .places .now)) (breaksIn (c .before .before .before .before .before .before .before .before .before .before .before .before .before .before .before .before .before .before .before .args .b) (c .before .before .before .before .before .before .before .before .before .before .before .before .before .before .before .before .before .before .before .args .broken .now) (c .before .before .before .before .before .before .before .before .before .before .before .before .before .before .before .before .before .before .before .args .held .now)) (c .before .before .before .before .before .before .before .before .before .before .before .before .before .before .before .loop .heights) (c .before .before .before .before .before .before .before .before .before .before .before .before .before .before .before .loop .blinds) (c .before .before .before .before .before .before .before .before .before .before .before .before .before .before .before .loop .ip) (at (c .before .before .before .before .before .before .before .before .before .before .before .before .before .before .before .loop .h) (c .before .before .before .before .before .before .before .before .before .before .before .before .before .before .before .loop .slots) (c .before .before .before .before .before .before .before .before .before .before .before .before .before .before .before .loop .places)) (breaksIn (c .before .before .before .before .before .before .before .before .before .before .before .before .before .before .before .loop .k) (c .before .before .before .before .before .before .before .before .before .before .before .before .before .before .before .loop .broken) (c .before .before .before .before .before .before .before .before .before .before .before .before .before .before .before .loop .held)) (c .before .before .before .before .before .before .before .before .before .before .before .before .before .before .before .loop .inv .2) (c .before .before .before .before .before .before .step .result) _ _ _ (c .before .before .before .before .before .before .step .ensures .1) (sym (c .before .passed .ensures) ∙ c .if2 .taken) (c .before .before .before .before .before .before .step .kept .1 .0) (c .before .before .before .before .before .before .step .kept .1 .1 .0))
-
--- src/lib.rt:81:17
-interp-region-cast-block-at : (t : ℕ) → interp-region-lts.Need-cast-block-at (
-  instr-at-reads.Asked,
-  instr-at-reads.Learnt,
-  is-straight-reads.Asked,
-  is-straight-reads.Learnt,
-  step-reads.Asked,
-  step-reads.Learnt,
-  passed-reads.Asked,
-  passed-reads.Learnt,
-  block-at-below t,
-  block-at.Post,
-) (interp-region-at t) interp-region.Post interp-region-Inv-loop interp-region-μ-loop
-interp-region-cast-block-at t c = search needs
-
--- src/lib.rt:71:17
-interp-region-block-at-requires : (t : ℕ) → interp-region-lts.Need-block-at-requires (
-  instr-at-reads.Asked,
-  instr-at-reads.Learnt,
-  is-straight-reads.Asked,
-  is-straight-reads.Learnt,
-  step-reads.Asked,
-  step-reads.Learnt,
-  passed-reads.Asked,
-  passed-reads.Learnt,
-  block-at-below t,
-  block-at.Post,
-) (interp-region-at t) interp-region.Post interp-region-Inv-loop interp-region-μ-loop
-interp-region-block-at-requires t c κs = (omega (arith, c .before .before .before .before .before .before .before .before .before .before .before .before .before .before .pre .0, (c .before .before .before .before .before .before .before .before .before .loop-test .taken), (c .before .before .before .before .before .before .before .before .before .before .loop .inv .2) .onward), ((c .before .before .before .before .before .before .before .before .before .before .loop .inv .2) .ready, ((c .before .before .before .before .before .before .before .before .before .before .loop .inv .0, c .before .before .before .before .before .before .before .before .before .before .loop .inv .1), ((c .before .before .before .before .before .before .before .before .before .loop-test .taken), c .before .before .before .before .before .before .before .before .instr-at .ensures .code-low, (sym (c .before .before .before .before .before .before .before .is-straight .ensures) ∙ c .before .before .before .before .before .before .if1 .left), (Codes.leads-here (c .before .before .before .before .before .before .before .before .before .before .before .before .before .before .args .t .now) (c .before .before .before .before .before .before .before .before .before .before .before .before .before .before .args .x .chunk) (c .before .before .before .before .before .before .before .before .before .before .before .before .before .before .args .x .first) (c .before .before .before .before .before .before .before .before .before .before .before .before .before .before .args .x .count) (c .before .before .before .before .before .before .before .before .before .before .loop .ip) (c .before .before .before .before .before .before .before .before .before .before .before .before .before .before .pre .1 .0 .placed .of .first) (c .before .before .before .before .before .before .before .before .before .before .before .before .before .before .pre .1 .0 .placed .of .count) (c .before .before .before .before .before .before .before .before .instr-at .result) (c .before .before .before .before .before .before .before .before .instr-at .ensures))))))
+interp-region-step-requires t c κs =
+    ((c .before .before .before .before .before .before .before .before .loop .inv .2) .ready .placed .of, ((c .before .before .before .before .before .before .before .before .loop .inv .2) .ready .placed .heights-long, (c .before .before .before .before .before .before .before .before .loop .inv .2) .ready .placed .blinds-long, c .before .before .before .before .before .before .before .before .loop .inv .0, omega (arith, c .before .before .before .before .before .before .before .loop-test .taken),
+    Cycle.end-inside _ _ _ _ _ _ _ _ _ ((c .before .before .before .before .before .before .before .before .loop .inv .2) .ready), c .before .before .before .before .before .before .before .before .before .before .before .before .pre .1 .0 .floor-low, (c .before .before .before .before .before .before .before .before .loop .inv .2) .ready .height-low))
 
 interp-region-enum-told : (t : ℕ) → interp-region-lts.Need-enum-told (
   instr-at-reads.Asked,
@@ -814,44 +698,12 @@ interp-region-enum-told : (t : ℕ) → interp-region-lts.Need-enum-told (
   is-straight-reads.Learnt,
   step-reads.Asked,
   step-reads.Learnt,
-  passed-reads.Asked,
-  passed-reads.Learnt,
   block-at-below t,
   block-at.Post,
 ) (interp-region-at t) interp-region.Post interp-region-Inv-loop interp-region-μ-loop
 interp-region-enum-told t c = search needs
 
--- src/lib.rt:54:5
-interp-region-loop-less-2 : (t : ℕ) → interp-region-lts.Need-loop-less-2 (
-  instr-at-reads.Asked,
-  instr-at-reads.Learnt,
-  is-straight-reads.Asked,
-  is-straight-reads.Learnt,
-  step-reads.Asked,
-  step-reads.Learnt,
-  passed-reads.Asked,
-  passed-reads.Learnt,
-  block-at-below t,
-  block-at.Post,
-) (interp-region-at t) interp-region.Post interp-region-Inv-loop interp-region-μ-loop
-interp-region-loop-less-2 t c = omega (arith, (c .before .before .before .before .before .before .before .before .before .before .before .before .before .before .before .before .before .before .loop-test .taken), c .before .before .before .before .before .before .before .before .block-at .ensures .3 .0)
-
--- src/lib.rt:54:5
-interp-region-loop-again-2 : (t : ℕ) → interp-region-lts.Need-loop-again-2 (
-  instr-at-reads.Asked,
-  instr-at-reads.Learnt,
-  is-straight-reads.Asked,
-  is-straight-reads.Learnt,
-  step-reads.Asked,
-  step-reads.Learnt,
-  passed-reads.Asked,
-  passed-reads.Learnt,
-  block-at-below t,
-  block-at.Post,
-) (interp-region-at t) interp-region.Post interp-region-Inv-loop interp-region-μ-loop
-interp-region-loop-again-2 t c = (c .before .before .before .before .before .before .before .before .block-at .ensures .0, c .before .before .before .before .before .before .before .before .block-at .ensures .1, Cycle.walking-past (c .before .before .before .before .before .before .before .before .before .before .before .before .before .before .before .before .before .before .before .before .before .before .before .args .t .now) (c .before .before .before .before .before .before .before .before .before .before .before .before .before .before .before .before .before .before .before .before .before .before .before .args .heights .now) (c .before .before .before .before .before .before .before .before .before .before .before .before .before .before .before .before .before .before .before .before .before .before .before .args .blinds .now) (c .before .before .before .before .before .before .before .before .before .before .before .before .before .before .before .before .before .before .before .before .before .before .before .args .x) (c .before .before .before .before .before .before .before .before .before .before .before .before .before .before .before .before .before .before .before .before .before .before .before .args .start) (c .before .before .before .before .before .before .before .before .before .before .before .before .before .before .before .before .before .before .before .before .before .before .before .args .end) (c .before .before .before .before .before .before .before .before .before .before .before .before .before .before .before .before .before .before .before .before .before .before .before .args .floor) (at (c .before .before .before .before .before .before .before .before .before .before .before .before .before .before .before .before .before .before .before .before .before .before .before .args .height) (c .before .before .before .before .before .before .before .before .before .before .before .before .before .before .before .before .before .before .before .before .before .before .before .args .slots .now) (c .before .before .before .before .before .before .before .before .before .before .before .before .before .before .before .before .before .before .before .before .before .before .before .args .places .now)) (breaksIn (c .before .before .before .before .before .before .before .before .before .before .before .before .before .before .before .before .before .before .before .before .before .before .before .args .b) (c .before .before .before .before .before .before .before .before .before .before .before .before .before .before .before .before .before .before .before .before .before .before .before .args .broken .now) (c .before .before .before .before .before .before .before .before .before .before .before .before .before .before .before .before .before .before .before .before .before .before .before .args .held .now)) (c .before .before .before .before .before .before .before .before .before .before .before .before .before .before .before .before .before .before .before .loop .heights) (c .before .before .before .before .before .before .before .before .before .before .before .before .before .before .before .before .before .before .before .loop .blinds) (c .before .before .before .before .before .before .before .before .before .before .before .before .before .before .before .before .before .before .before .loop .ip) (at (c .before .before .before .before .before .before .before .before .before .before .before .before .before .before .before .before .before .before .before .loop .h) (c .before .before .before .before .before .before .before .before .before .before .before .before .before .before .before .before .before .before .before .loop .slots) (c .before .before .before .before .before .before .before .before .before .before .before .before .before .before .before .before .before .before .before .loop .places)) (breaksIn (c .before .before .before .before .before .before .before .before .before .before .before .before .before .before .before .before .before .before .before .loop .k) (c .before .before .before .before .before .before .before .before .before .before .before .before .before .before .before .before .before .before .before .loop .broken) (c .before .before .before .before .before .before .before .before .before .before .before .before .before .before .before .before .before .before .before .loop .held)) (c .before .before .before .before .before .before .before .before .before .before .before .before .before .before .before .before .before .before .before .loop .inv .2) (c .before .before .before .before .before .before .before .before .before .before .before .before .before .before .before .before .before .before .loop-test .taken) (c .before .before .before .before .before .before .before .before .before .before .before .before .before .before .before .before .before .instr-at .result .code) (c .before .before .before .before .before .before .before .before .before .before .before .before .before .before .before .before .before .instr-at .result .a) (Codes.leads-here (c .before .before .before .before .before .before .before .before .before .before .before .before .before .before .before .before .before .before .before .before .before .before .before .args .t .now) (c .before .before .before .before .before .before .before .before .before .before .before .before .before .before .before .before .before .before .before .before .before .before .before .args .x .chunk) (c .before .before .before .before .before .before .before .before .before .before .before .before .before .before .before .before .before .before .before .before .before .before .before .args .x .first) (c .before .before .before .before .before .before .before .before .before .before .before .before .before .before .before .before .before .before .before .before .before .before .before .args .x .count) (c .before .before .before .before .before .before .before .before .before .before .before .before .before .before .before .before .before .before .before .loop .ip) (c .before .before .before .before .before .before .before .before .before .before .before .before .before .before .before .before .before .before .before .before .before .before .before .pre .1 .0 .placed .of .first) (c .before .before .before .before .before .before .before .before .before .before .before .before .before .before .before .before .before .before .before .before .before .before .before .pre .1 .0 .placed .of .count) (c .before .before .before .before .before .before .before .before .before .before .before .before .before .before .before .before .before .instr-at .result) (c .before .before .before .before .before .before .before .before .before .before .before .before .before .before .before .before .before .instr-at .ensures)) (onwardIn (c .before .before .before .before .before .before .before .before .block-at .result) (c .before .before .before .before .before .before .before .before .block-at .last .1 .1 .1 .0) (c .before .before .before .before .before .before .before .before .block-at .last .1 .1 .1 .1 .0) (c .before .before .before .before .before .before .before .before .block-at .last .1 .1 .1 .1 .1 .0) (c .before .before .before .before .before .before .before .before .block-at .last .1 .1 .1 .1 .1 .1 .0)) _ _ (c .before .before .before .before .before .before .before .before .block-at .ensures .2) (c .enum-told .given .1) (c .before .before .before .before .before .before .before .before .block-at .kept .1 .0) (c .before .before .before .before .before .before .before .before .block-at .kept .1 .1 .0) (c .before .before .before .before .before .before .before .before .block-at .ensures .3 .0) (c .before .before .before .before .before .before .before .before .block-at .ensures .3 .1) (c .before .before .before .before .before .before .before .before .block-at .ensures .3 .2 .0) (c .before .before .before .before .before .before .before .before .block-at .ensures .3 .2 .1))
-
--- src/lib.rt:96:21
+-- src/lib.rt:64:27
 interp-region-enum-told-2 : (t : ℕ) → interp-region-lts.Need-enum-told-2 (
   instr-at-reads.Asked,
   instr-at-reads.Learnt,
@@ -859,59 +711,113 @@ interp-region-enum-told-2 : (t : ℕ) → interp-region-lts.Need-enum-told-2 (
   is-straight-reads.Learnt,
   step-reads.Asked,
   step-reads.Learnt,
-  passed-reads.Asked,
-  passed-reads.Learnt,
   block-at-below t,
   block-at.Post,
 ) (interp-region-at t) interp-region.Post interp-region-Inv-loop interp-region-μ-loop
 interp-region-enum-told-2 t c = search needs
 
--- src/lib.rt:96:21
-interp-region-same-length-3 : (t : ℕ) → interp-region-lts.Need-same-length-3 (
+-- src/lib.rt:63:17
+interp-region-same-length : (t : ℕ) → interp-region-lts.Need-same-length (
   instr-at-reads.Asked,
   instr-at-reads.Learnt,
   is-straight-reads.Asked,
   is-straight-reads.Learnt,
   step-reads.Asked,
   step-reads.Learnt,
-  passed-reads.Asked,
-  passed-reads.Learnt,
   block-at-below t,
   block-at.Post,
 ) (interp-region-at t) interp-region.Post interp-region-Inv-loop interp-region-μ-loop
-interp-region-same-length-3 t c = search needs
+interp-region-same-length t c = search needs
 
--- src/lib.rt:96:21
-interp-region-same-length-4 : (t : ℕ) → interp-region-lts.Need-same-length-4 (
+-- src/lib.rt:63:17
+interp-region-same-length-2 : (t : ℕ) → interp-region-lts.Need-same-length-2 (
   instr-at-reads.Asked,
   instr-at-reads.Learnt,
   is-straight-reads.Asked,
   is-straight-reads.Learnt,
   step-reads.Asked,
   step-reads.Learnt,
-  passed-reads.Asked,
-  passed-reads.Learnt,
   block-at-below t,
   block-at.Post,
 ) (interp-region-at t) interp-region.Post interp-region-Inv-loop interp-region-μ-loop
-interp-region-same-length-4 t c = search needs
+interp-region-same-length-2 t c = search needs
 
--- src/lib.rt:96:21
-interp-region-returns-2 : (t : ℕ) → interp-region-lts.Need-returns-2 (
+-- src/lib.rt:63:17
+interp-region-returns : (t : ℕ) → interp-region-lts.Need-returns (
   instr-at-reads.Asked,
   instr-at-reads.Learnt,
   is-straight-reads.Asked,
   is-straight-reads.Learnt,
   step-reads.Asked,
   step-reads.Learnt,
-  passed-reads.Asked,
-  passed-reads.Learnt,
   block-at-below t,
   block-at.Post,
 ) (interp-region-at t) interp-region.Post interp-region-Inv-loop interp-region-μ-loop
-interp-region-returns-2 t c = (c .before .before .before .before .before .before .before .before .block-at .ensures .0, c .before .before .before .before .before .before .before .before .block-at .ensures .1, Cycle.walking-ended (c .before .before .before .before .before .before .before .before .before .before .before .before .before .before .before .before .before .before .before .before .before .before .before .args .t .now) (c .before .before .before .before .before .before .before .before .before .before .before .before .before .before .before .before .before .before .before .before .before .before .before .args .heights .now) (c .before .before .before .before .before .before .before .before .before .before .before .before .before .before .before .before .before .before .before .before .before .before .before .args .blinds .now) (c .before .before .before .before .before .before .before .before .before .before .before .before .before .before .before .before .before .before .before .before .before .before .before .args .x) (c .before .before .before .before .before .before .before .before .before .before .before .before .before .before .before .before .before .before .before .before .before .before .before .args .start) (c .before .before .before .before .before .before .before .before .before .before .before .before .before .before .before .before .before .before .before .before .before .before .before .args .end) (c .before .before .before .before .before .before .before .before .before .before .before .before .before .before .before .before .before .before .before .before .before .before .before .args .floor) (at (c .before .before .before .before .before .before .before .before .before .before .before .before .before .before .before .before .before .before .before .before .before .before .before .args .height) (c .before .before .before .before .before .before .before .before .before .before .before .before .before .before .before .before .before .before .before .before .before .before .before .args .slots .now) (c .before .before .before .before .before .before .before .before .before .before .before .before .before .before .before .before .before .before .before .before .before .before .before .args .places .now)) (breaksIn (c .before .before .before .before .before .before .before .before .before .before .before .before .before .before .before .before .before .before .before .before .before .before .before .args .b) (c .before .before .before .before .before .before .before .before .before .before .before .before .before .before .before .before .before .before .before .before .before .before .before .args .broken .now) (c .before .before .before .before .before .before .before .before .before .before .before .before .before .before .before .before .before .before .before .before .before .before .before .args .held .now)) (c .before .before .before .before .before .before .before .before .before .before .before .before .before .before .before .before .before .before .before .loop .heights) (c .before .before .before .before .before .before .before .before .before .before .before .before .before .before .before .before .before .before .before .loop .blinds) (c .before .before .before .before .before .before .before .before .before .before .before .before .before .before .before .before .before .before .before .loop .ip) (at (c .before .before .before .before .before .before .before .before .before .before .before .before .before .before .before .before .before .before .before .loop .h) (c .before .before .before .before .before .before .before .before .before .before .before .before .before .before .before .before .before .before .before .loop .slots) (c .before .before .before .before .before .before .before .before .before .before .before .before .before .before .before .before .before .before .before .loop .places)) (breaksIn (c .before .before .before .before .before .before .before .before .before .before .before .before .before .before .before .before .before .before .before .loop .k) (c .before .before .before .before .before .before .before .before .before .before .before .before .before .before .before .before .before .before .before .loop .broken) (c .before .before .before .before .before .before .before .before .before .before .before .before .before .before .before .before .before .before .before .loop .held)) (c .before .before .before .before .before .before .before .before .before .before .before .before .before .before .before .before .before .before .before .loop .inv .2) (c .before .before .before .before .before .before .before .before .before .before .before .before .before .before .before .before .before .before .loop-test .taken) (c .before .before .before .before .before .before .before .before .before .before .before .before .before .before .before .before .before .instr-at .result .code) (c .before .before .before .before .before .before .before .before .before .before .before .before .before .before .before .before .before .instr-at .result .a) (Codes.leads-here (c .before .before .before .before .before .before .before .before .before .before .before .before .before .before .before .before .before .before .before .before .before .before .before .args .t .now) (c .before .before .before .before .before .before .before .before .before .before .before .before .before .before .before .before .before .before .before .before .before .before .before .args .x .chunk) (c .before .before .before .before .before .before .before .before .before .before .before .before .before .before .before .before .before .before .before .before .before .before .before .args .x .first) (c .before .before .before .before .before .before .before .before .before .before .before .before .before .before .before .before .before .before .before .before .before .before .before .args .x .count) (c .before .before .before .before .before .before .before .before .before .before .before .before .before .before .before .before .before .before .before .loop .ip) (c .before .before .before .before .before .before .before .before .before .before .before .before .before .before .before .before .before .before .before .before .before .before .before .pre .1 .0 .placed .of .first) (c .before .before .before .before .before .before .before .before .before .before .before .before .before .before .before .before .before .before .before .before .before .before .before .pre .1 .0 .placed .of .count) (c .before .before .before .before .before .before .before .before .before .before .before .before .before .before .before .before .before .instr-at .result) (c .before .before .before .before .before .before .before .before .before .before .before .before .before .before .before .before .before .instr-at .ensures)) (onwardIn (c .before .before .before .before .before .before .before .before .block-at .result) (c .before .before .before .before .before .before .before .before .block-at .last .1 .1 .1 .0) (c .before .before .before .before .before .before .before .before .block-at .last .1 .1 .1 .1 .0) (c .before .before .before .before .before .before .before .before .block-at .last .1 .1 .1 .1 .1 .0) (c .before .before .before .before .before .before .before .before .block-at .last .1 .1 .1 .1 .1 .1 .0)) _ _ (c .before .before .before .before .before .before .before .before .block-at .ensures .2) (c .enum-told2 .given .1), c .before .before .before .before .before .before .before .before .block-at .ensures .3 .2)
+interp-region-returns t c =
+    (c .before .before .before .before .before .before .step .ensures .0, c .before .before .before .before .before .before .before .before .before .before .before .before .before .before .before .loop .inv .1, Cycle.walking-refused (c .before .before .before .before .before .before .before .before .before .before .before .before .before .before .before .before .before .before .before .args .t .now) (c .before .before .before .before .before .before .before .before .before .before .before .before .before .before .before .before .before .before .before .args .heights .now) (c .before .before .before .before .before .before .before .before .before .before .before .before .before .before .before .before .before .before .before .args .blinds .now) (c .before .before .before .before .before .before .before .before .before .before .before .before .before .before .before .before .before .before .before .args .x) (c .before .before .before .before .before .before .before .before .before .before .before .before .before .before .before .before .before .before .before .args .start) (c .before .before .before .before .before .before .before .before .before .before .before .before .before .before .before .before .before .before .before .args .end) (c .before .before .before .before .before .before .before .before .before .before .before .before .before .before .before .before .before .before .before .args .floor) (at (c .before .before .before .before .before .before .before .before .before .before .before .before .before .before .before .before .before .before .before .args .height) (c .before .before .before .before .before .before .before .before .before .before .before .before .before .before .before .before .before .before .before .args .slots .now) (c .before .before .before .before .before .before .before .before .before .before .before .before .before .before .before .before .before .before .before .args .places .now)) (breaksIn (c .before .before .before .before .before .before .before .before .before .before .before .before .before .before .before .before .before .before .before .args .b) (c .before .before .before .before .before .before .before .before .before .before .before .before .before .before .before .before .before .before .before .args .broken .now) (c .before .before .before .before .before .before .before .before .before .before .before .before .before .before .before .before .before .before .before .args .held .now)) (c .before .before .before .before .before .before .before .before .before .before .before .before .before .before .before .loop .heights) (c .before .before .before .before .before .before .before .before .before .before .before .before .before .before .before .loop .blinds)
+    (c .before .before .before .before .before .before .before .before .before .before .before .before .before .before .before .loop .ip) (at (c .before .before .before .before .before .before .before .before .before .before .before .before .before .before .before .loop .h) (c .before .before .before .before .before .before .before .before .before .before .before .before .before .before .before .loop .slots) (c .before .before .before .before .before .before .before .before .before .before .before .before .before .before .before .loop .places)) (breaksIn (c .before .before .before .before .before .before .before .before .before .before .before .before .before .before .before .loop .k) (c .before .before .before .before .before .before .before .before .before .before .before .before .before .before .before .loop .broken) (c .before .before .before .before .before .before .before .before .before .before .before .before .before .before .before .loop .held)) (c .before .before .before .before .before .before .before .before .before .before .before .before .before .before .before .loop .inv .2) (c .before .before .before .before .before .before .step .result) _ _ _ (c .before .before .before .before .before .before .step .ensures .1) (sym (passed-no _ (c .enum-told2 .given .1))) (record { flow = Refused
+    (c .before .before .before .before .before .before .step .result .verdict); state = at (c .before .before .before .before .before .before .before .before .before .before .before .before .before .before .before .loop .h) (c .before .before .before .before .before .before .step .last .1 .1 .1 .0) (c .before .before .before .before .before .before .step .last .1 .1 .1 .1 .0); breaks = breaksIn (c .before .before .before .before .before .before .before .before .before .before .before .before .before .before .before .loop .k) (c .before .before .before .before .before .before .before .before .before .before .before .before .before .before .before .loop .broken)
+    (c .before .before .before .before .before .before .before .before .before .before .before .before .before .before .before .loop .held) }) _ refl, ((c .before .before .before .before .before .before .before .before .before .before .before .before .before .before .before .loop .inv .2) .ready .height-low, (c .before .before .before .before .before .before .before .before .before .before .before .before .before .before .before .loop .inv .2) .ready .breaks-low))
 
--- src/lib.rt:103:21
+-- src/lib.rt:55:5
+interp-region-loop-less : (t : ℕ) → interp-region-lts.Need-loop-less (
+  instr-at-reads.Asked,
+  instr-at-reads.Learnt,
+  is-straight-reads.Asked,
+  is-straight-reads.Learnt,
+  step-reads.Asked,
+  step-reads.Learnt,
+  block-at-below t,
+  block-at.Post,
+) (interp-region-at t) interp-region.Post interp-region-Inv-loop interp-region-μ-loop
+interp-region-loop-less t c =
+    omega (arith, c .before .before .before .before .before .before .before .before .before .before .before .before .before .before .loop-test .taken, c .before .before .before .before .before .before .step .ensures .1 .moved (sym (passed-yes _ (c .enum-told .given .1))) (c .before .before .before .before .before .before .before .before .before .before .before .before .before .before .loop-test .taken) (Cycle.straight-here (c .before .before .before .before .before .before .before .before .before .before .before .before .before .before .before .before .before .before .before .args .t .now) (c .before .before .before .before .before .before .before .before .before .before .before .before .before .before .before .before .before .before .before .args .x)
+    (c .before .before .before .before .before .before .before .before .before .before .before .before .before .before .before .loop .ip) _ (c .before .before .before .before .before .before .before .before .before .before .before .before .before .instr-at .ensures) _ (c .before .before .before .before .before .before .before .before .before .before .before .before .is-straight .ensures) (c .before .before .before .before .before .before .before .before .before .before .before .if1 .taken)), c .before .before .before .before .before .before .step .ensures .1 .to)
+
+-- src/lib.rt:55:5
+interp-region-loop-again : (t : ℕ) → interp-region-lts.Need-loop-again (
+  instr-at-reads.Asked,
+  instr-at-reads.Learnt,
+  is-straight-reads.Asked,
+  is-straight-reads.Learnt,
+  step-reads.Asked,
+  step-reads.Learnt,
+  block-at-below t,
+  block-at.Post,
+) (interp-region-at t) interp-region.Post interp-region-Inv-loop interp-region-μ-loop
+interp-region-loop-again t c =
+    (c .before .before .before .before .before .before .step .ensures .0, c .before .before .before .before .before .before .before .before .before .before .before .before .before .before .before .loop .inv .1, Cycle.walking-ran (c .before .before .before .before .before .before .before .before .before .before .before .before .before .before .before .before .before .before .before .args .t .now) (c .before .before .before .before .before .before .before .before .before .before .before .before .before .before .before .before .before .before .before .args .heights .now) (c .before .before .before .before .before .before .before .before .before .before .before .before .before .before .before .before .before .before .before .args .blinds .now) (c .before .before .before .before .before .before .before .before .before .before .before .before .before .before .before .before .before .before .before .args .x) (c .before .before .before .before .before .before .before .before .before .before .before .before .before .before .before .before .before .before .before .args .start) (c .before .before .before .before .before .before .before .before .before .before .before .before .before .before .before .before .before .before .before .args .end) (c .before .before .before .before .before .before .before .before .before .before .before .before .before .before .before .before .before .before .before .args .floor) (at (c .before .before .before .before .before .before .before .before .before .before .before .before .before .before .before .before .before .before .before .args .height) (c .before .before .before .before .before .before .before .before .before .before .before .before .before .before .before .before .before .before .before .args .slots .now) (c .before .before .before .before .before .before .before .before .before .before .before .before .before .before .before .before .before .before .before .args .places .now)) (breaksIn (c .before .before .before .before .before .before .before .before .before .before .before .before .before .before .before .before .before .before .before .args .b) (c .before .before .before .before .before .before .before .before .before .before .before .before .before .before .before .before .before .before .before .args .broken .now) (c .before .before .before .before .before .before .before .before .before .before .before .before .before .before .before .before .before .before .before .args .held .now)) (c .before .before .before .before .before .before .before .before .before .before .before .before .before .before .before .loop .heights) (c .before .before .before .before .before .before .before .before .before .before .before .before .before .before .before .loop .blinds)
+    (c .before .before .before .before .before .before .before .before .before .before .before .before .before .before .before .loop .ip) (at (c .before .before .before .before .before .before .before .before .before .before .before .before .before .before .before .loop .h) (c .before .before .before .before .before .before .before .before .before .before .before .before .before .before .before .loop .slots) (c .before .before .before .before .before .before .before .before .before .before .before .before .before .before .before .loop .places)) (breaksIn (c .before .before .before .before .before .before .before .before .before .before .before .before .before .before .before .loop .k) (c .before .before .before .before .before .before .before .before .before .before .before .before .before .before .before .loop .broken) (c .before .before .before .before .before .before .before .before .before .before .before .before .before .before .before .loop .held)) (c .before .before .before .before .before .before .before .before .before .before .before .before .before .before .before .loop .inv .2) (c .before .before .before .before .before .before .step .result) _ _ _ (c .before .before .before .before .before .before .step .ensures .1) (sym (passed-yes _ (c .enum-told .given .1))) (c .before .before .before .before .before .before .step .kept .1 .0)
+    (c .before .before .before .before .before .before .step .kept .1 .1 .0))
+
+-- src/lib.rt:82:17
+interp-region-cast-block-at : (t : ℕ) → interp-region-lts.Need-cast-block-at (
+  instr-at-reads.Asked,
+  instr-at-reads.Learnt,
+  is-straight-reads.Asked,
+  is-straight-reads.Learnt,
+  step-reads.Asked,
+  step-reads.Learnt,
+  block-at-below t,
+  block-at.Post,
+) (interp-region-at t) interp-region.Post interp-region-Inv-loop interp-region-μ-loop
+interp-region-cast-block-at t c = search needs
+
+-- src/lib.rt:72:17
+interp-region-block-at-requires : (t : ℕ) → interp-region-lts.Need-block-at-requires (
+  instr-at-reads.Asked,
+  instr-at-reads.Learnt,
+  is-straight-reads.Asked,
+  is-straight-reads.Learnt,
+  step-reads.Asked,
+  step-reads.Learnt,
+  block-at-below t,
+  block-at.Post,
+) (interp-region-at t) interp-region.Post interp-region-Inv-loop interp-region-μ-loop
+interp-region-block-at-requires t c κs =
+    (omega (arith, c .before .before .before .before .before .before .before .before .before .before .before .before .before .before .pre .0, (c .before .before .before .before .before .before .before .before .before .loop-test .taken), (c .before .before .before .before .before .before .before .before .before .before .loop .inv .2) .onward), ((c .before .before .before .before .before .before .before .before .before .before .loop .inv .2) .ready, ((c .before .before .before .before .before .before .before .before .before .before .loop .inv .0, c .before .before .before .before .before .before .before .before .before .before .loop .inv .1), ((c .before .before .before .before .before .before .before .before .before .loop-test .taken),
+    c .before .before .before .before .before .before .before .before .instr-at .ensures .code-low, (sym (c .before .before .before .before .before .before .before .is-straight .ensures) ∙ c .before .before .before .before .before .before .if1 .left), (Codes.leads-here (c .before .before .before .before .before .before .before .before .before .before .before .before .before .before .args .t .now) (c .before .before .before .before .before .before .before .before .before .before .before .before .before .before .args .x .chunk) (c .before .before .before .before .before .before .before .before .before .before .before .before .before .before .args .x .first) (c .before .before .before .before .before .before .before .before .before .before .before .before .before .before .args .x .count) (c .before .before .before .before .before .before .before .before .before .before .loop .ip) (c .before .before .before .before .before .before .before .before .before .before .before .before .before .before .pre .1 .0 .placed .of .first) (c .before .before .before .before .before .before .before .before .before .before .before .before .before .before .pre .1 .0 .placed .of .count) (c .before .before .before .before .before .before .before .before .instr-at .result) (c .before .before .before .before .before .before .before .before .instr-at .ensures))))))
+
 interp-region-enum-told-3 : (t : ℕ) → interp-region-lts.Need-enum-told-3 (
   instr-at-reads.Asked,
   instr-at-reads.Learnt,
@@ -919,14 +825,112 @@ interp-region-enum-told-3 : (t : ℕ) → interp-region-lts.Need-enum-told-3 (
   is-straight-reads.Learnt,
   step-reads.Asked,
   step-reads.Learnt,
-  passed-reads.Asked,
-  passed-reads.Learnt,
   block-at-below t,
   block-at.Post,
 ) (interp-region-at t) interp-region.Post interp-region-Inv-loop interp-region-μ-loop
 interp-region-enum-told-3 t c = search needs
 
--- src/lib.rt:103:21
+-- src/lib.rt:55:5
+interp-region-loop-less-2 : (t : ℕ) → interp-region-lts.Need-loop-less-2 (
+  instr-at-reads.Asked,
+  instr-at-reads.Learnt,
+  is-straight-reads.Asked,
+  is-straight-reads.Learnt,
+  step-reads.Asked,
+  step-reads.Learnt,
+  block-at-below t,
+  block-at.Post,
+) (interp-region-at t) interp-region.Post interp-region-Inv-loop interp-region-μ-loop
+interp-region-loop-less-2 t c = omega (arith, (c .before .before .before .before .before .before .before .before .before .before .before .before .before .before .before .before .before .before .loop-test .taken), c .before .before .before .before .before .before .before .before .block-at .ensures .3 .0)
+
+-- src/lib.rt:55:5
+interp-region-loop-again-2 : (t : ℕ) → interp-region-lts.Need-loop-again-2 (
+  instr-at-reads.Asked,
+  instr-at-reads.Learnt,
+  is-straight-reads.Asked,
+  is-straight-reads.Learnt,
+  step-reads.Asked,
+  step-reads.Learnt,
+  block-at-below t,
+  block-at.Post,
+) (interp-region-at t) interp-region.Post interp-region-Inv-loop interp-region-μ-loop
+interp-region-loop-again-2 t c =
+    (c .before .before .before .before .before .before .before .before .block-at .ensures .0, c .before .before .before .before .before .before .before .before .block-at .ensures .1, Cycle.walking-past (c .before .before .before .before .before .before .before .before .before .before .before .before .before .before .before .before .before .before .before .before .before .before .before .args .t .now) (c .before .before .before .before .before .before .before .before .before .before .before .before .before .before .before .before .before .before .before .before .before .before .before .args .heights .now) (c .before .before .before .before .before .before .before .before .before .before .before .before .before .before .before .before .before .before .before .before .before .before .before .args .blinds .now) (c .before .before .before .before .before .before .before .before .before .before .before .before .before .before .before .before .before .before .before .before .before .before .before .args .x) (c .before .before .before .before .before .before .before .before .before .before .before .before .before .before .before .before .before .before .before .before .before .before .before .args .start) (c .before .before .before .before .before .before .before .before .before .before .before .before .before .before .before .before .before .before .before .before .before .before .before .args .end) (c .before .before .before .before .before .before .before .before .before .before .before .before .before .before .before .before .before .before .before .before .before .before .before .args .floor) (at (c .before .before .before .before .before .before .before .before .before .before .before .before .before .before .before .before .before .before .before .before .before .before .before .args .height) (c .before .before .before .before .before .before .before .before .before .before .before .before .before .before .before .before .before .before .before .before .before .before .before .args .slots .now) (c .before .before .before .before .before .before .before .before .before .before .before .before .before .before .before .before .before .before .before .before .before .before .before .args .places .now)) (breaksIn (c .before .before .before .before .before .before .before .before .before .before .before .before .before .before .before .before .before .before .before .before .before .before .before .args .b) (c .before .before .before .before .before .before .before .before .before .before .before .before .before .before .before .before .before .before .before .before .before .before .before .args .broken .now) (c .before .before .before .before .before .before .before .before .before .before .before .before .before .before .before .before .before .before .before .before .before .before .before .args .held .now)) (c .before .before .before .before .before .before .before .before .before .before .before .before .before .before .before .before .before .before .before .loop .heights)
+    (c .before .before .before .before .before .before .before .before .before .before .before .before .before .before .before .before .before .before .before .loop .blinds) (c .before .before .before .before .before .before .before .before .before .before .before .before .before .before .before .before .before .before .before .loop .ip) (at (c .before .before .before .before .before .before .before .before .before .before .before .before .before .before .before .before .before .before .before .loop .h) (c .before .before .before .before .before .before .before .before .before .before .before .before .before .before .before .before .before .before .before .loop .slots) (c .before .before .before .before .before .before .before .before .before .before .before .before .before .before .before .before .before .before .before .loop .places)) (breaksIn (c .before .before .before .before .before .before .before .before .before .before .before .before .before .before .before .before .before .before .before .loop .k) (c .before .before .before .before .before .before .before .before .before .before .before .before .before .before .before .before .before .before .before .loop .broken) (c .before .before .before .before .before .before .before .before .before .before .before .before .before .before .before .before .before .before .before .loop .held)) (c .before .before .before .before .before .before .before .before .before .before .before .before .before .before .before .before .before .before .before .loop .inv .2) (c .before .before .before .before .before .before .before .before .before .before .before .before .before .before .before .before .before .before .loop-test .taken) (c .before .before .before .before .before .before .before .before .before .before .before .before .before .before .before .before .before .instr-at .result .code) (c .before .before .before .before .before .before .before .before .before .before .before .before .before .before .before .before .before .instr-at .result .a) (Codes.leads-here (c .before .before .before .before .before .before .before .before .before .before .before .before .before .before .before .before .before .before .before .before .before .before .before .args .t .now) (c .before .before .before .before .before .before .before .before .before .before .before .before .before .before .before .before .before .before .before .before .before .before .before .args .x .chunk) (c .before .before .before .before .before .before .before .before .before .before .before .before .before .before .before .before .before .before .before .before .before .before .before .args .x .first) (c .before .before .before .before .before .before .before .before .before .before .before .before .before .before .before .before .before .before .before .before .before .before .before .args .x .count) (c .before .before .before .before .before .before .before .before .before .before .before .before .before .before .before .before .before .before .before .loop .ip) (c .before .before .before .before .before .before .before .before .before .before .before .before .before .before .before .before .before .before .before .before .before .before .before .pre .1 .0 .placed .of .first) (c .before .before .before .before .before .before .before .before .before .before .before .before .before .before .before .before .before .before .before .before .before .before .before .pre .1 .0 .placed .of .count) (c .before .before .before .before .before .before .before .before .before .before .before .before .before .before .before .before .before .instr-at .result) (c .before .before .before .before .before .before .before .before .before .before .before .before .before .before .before .before .before .instr-at .ensures)) (onwardIn
+    (c .before .before .before .before .before .before .before .before .block-at .result) (c .before .before .before .before .before .before .before .before .block-at .last .1 .1 .1 .0) (c .before .before .before .before .before .before .before .before .block-at .last .1 .1 .1 .1 .0) (c .before .before .before .before .before .before .before .before .block-at .last .1 .1 .1 .1 .1 .0)
+    (c .before .before .before .before .before .before .before .before .block-at .last .1 .1 .1 .1 .1 .1 .0)) _ _ (c .before .before .before .before .before .before .before .before .block-at .ensures .2) (c .enum-told3 .given .1) (c .before .before .before .before .before .before .before .before .block-at .kept .1 .0) (c .before .before .before .before .before .before .before .before .block-at .kept .1 .1 .0)
+    (c .before .before .before .before .before .before .before .before .block-at .ensures .3 .0) (c .before .before .before .before .before .before .before .before .block-at .ensures .3 .1) (c .before .before .before .before .before .before .before .before .block-at .ensures .3 .2 .0) (c .before .before .before .before .before .before .before .before .block-at .ensures .3 .2 .1))
+
+-- src/lib.rt:97:21
+interp-region-enum-told-4 : (t : ℕ) → interp-region-lts.Need-enum-told-4 (
+  instr-at-reads.Asked,
+  instr-at-reads.Learnt,
+  is-straight-reads.Asked,
+  is-straight-reads.Learnt,
+  step-reads.Asked,
+  step-reads.Learnt,
+  block-at-below t,
+  block-at.Post,
+) (interp-region-at t) interp-region.Post interp-region-Inv-loop interp-region-μ-loop
+interp-region-enum-told-4 t c = search needs
+
+-- src/lib.rt:97:21
+interp-region-same-length-3 : (t : ℕ) → interp-region-lts.Need-same-length-3 (
+  instr-at-reads.Asked,
+  instr-at-reads.Learnt,
+  is-straight-reads.Asked,
+  is-straight-reads.Learnt,
+  step-reads.Asked,
+  step-reads.Learnt,
+  block-at-below t,
+  block-at.Post,
+) (interp-region-at t) interp-region.Post interp-region-Inv-loop interp-region-μ-loop
+interp-region-same-length-3 t c = search needs
+
+-- src/lib.rt:97:21
+interp-region-same-length-4 : (t : ℕ) → interp-region-lts.Need-same-length-4 (
+  instr-at-reads.Asked,
+  instr-at-reads.Learnt,
+  is-straight-reads.Asked,
+  is-straight-reads.Learnt,
+  step-reads.Asked,
+  step-reads.Learnt,
+  block-at-below t,
+  block-at.Post,
+) (interp-region-at t) interp-region.Post interp-region-Inv-loop interp-region-μ-loop
+interp-region-same-length-4 t c = search needs
+
+-- src/lib.rt:97:21
+interp-region-returns-2 : (t : ℕ) → interp-region-lts.Need-returns-2 (
+  instr-at-reads.Asked,
+  instr-at-reads.Learnt,
+  is-straight-reads.Asked,
+  is-straight-reads.Learnt,
+  step-reads.Asked,
+  step-reads.Learnt,
+  block-at-below t,
+  block-at.Post,
+) (interp-region-at t) interp-region.Post interp-region-Inv-loop interp-region-μ-loop
+interp-region-returns-2 t c =
+    (c .before .before .before .before .before .before .before .before .block-at .ensures .0, c .before .before .before .before .before .before .before .before .block-at .ensures .1, Cycle.walking-ended (c .before .before .before .before .before .before .before .before .before .before .before .before .before .before .before .before .before .before .before .before .before .before .before .args .t .now) (c .before .before .before .before .before .before .before .before .before .before .before .before .before .before .before .before .before .before .before .before .before .before .before .args .heights .now) (c .before .before .before .before .before .before .before .before .before .before .before .before .before .before .before .before .before .before .before .before .before .before .before .args .blinds .now) (c .before .before .before .before .before .before .before .before .before .before .before .before .before .before .before .before .before .before .before .before .before .before .before .args .x) (c .before .before .before .before .before .before .before .before .before .before .before .before .before .before .before .before .before .before .before .before .before .before .before .args .start) (c .before .before .before .before .before .before .before .before .before .before .before .before .before .before .before .before .before .before .before .before .before .before .before .args .end) (c .before .before .before .before .before .before .before .before .before .before .before .before .before .before .before .before .before .before .before .before .before .before .before .args .floor) (at (c .before .before .before .before .before .before .before .before .before .before .before .before .before .before .before .before .before .before .before .before .before .before .before .args .height) (c .before .before .before .before .before .before .before .before .before .before .before .before .before .before .before .before .before .before .before .before .before .before .before .args .slots .now) (c .before .before .before .before .before .before .before .before .before .before .before .before .before .before .before .before .before .before .before .before .before .before .before .args .places .now)) (breaksIn (c .before .before .before .before .before .before .before .before .before .before .before .before .before .before .before .before .before .before .before .before .before .before .before .args .b) (c .before .before .before .before .before .before .before .before .before .before .before .before .before .before .before .before .before .before .before .before .before .before .before .args .broken .now) (c .before .before .before .before .before .before .before .before .before .before .before .before .before .before .before .before .before .before .before .before .before .before .before .args .held .now)) (c .before .before .before .before .before .before .before .before .before .before .before .before .before .before .before .before .before .before .before .loop .heights)
+    (c .before .before .before .before .before .before .before .before .before .before .before .before .before .before .before .before .before .before .before .loop .blinds) (c .before .before .before .before .before .before .before .before .before .before .before .before .before .before .before .before .before .before .before .loop .ip) (at (c .before .before .before .before .before .before .before .before .before .before .before .before .before .before .before .before .before .before .before .loop .h) (c .before .before .before .before .before .before .before .before .before .before .before .before .before .before .before .before .before .before .before .loop .slots) (c .before .before .before .before .before .before .before .before .before .before .before .before .before .before .before .before .before .before .before .loop .places)) (breaksIn (c .before .before .before .before .before .before .before .before .before .before .before .before .before .before .before .before .before .before .before .loop .k) (c .before .before .before .before .before .before .before .before .before .before .before .before .before .before .before .before .before .before .before .loop .broken) (c .before .before .before .before .before .before .before .before .before .before .before .before .before .before .before .before .before .before .before .loop .held)) (c .before .before .before .before .before .before .before .before .before .before .before .before .before .before .before .before .before .before .before .loop .inv .2) (c .before .before .before .before .before .before .before .before .before .before .before .before .before .before .before .before .before .before .loop-test .taken) (c .before .before .before .before .before .before .before .before .before .before .before .before .before .before .before .before .before .instr-at .result .code) (c .before .before .before .before .before .before .before .before .before .before .before .before .before .before .before .before .before .instr-at .result .a) (Codes.leads-here (c .before .before .before .before .before .before .before .before .before .before .before .before .before .before .before .before .before .before .before .before .before .before .before .args .t .now) (c .before .before .before .before .before .before .before .before .before .before .before .before .before .before .before .before .before .before .before .before .before .before .before .args .x .chunk) (c .before .before .before .before .before .before .before .before .before .before .before .before .before .before .before .before .before .before .before .before .before .before .before .args .x .first) (c .before .before .before .before .before .before .before .before .before .before .before .before .before .before .before .before .before .before .before .before .before .before .before .args .x .count) (c .before .before .before .before .before .before .before .before .before .before .before .before .before .before .before .before .before .before .before .loop .ip) (c .before .before .before .before .before .before .before .before .before .before .before .before .before .before .before .before .before .before .before .before .before .before .before .pre .1 .0 .placed .of .first) (c .before .before .before .before .before .before .before .before .before .before .before .before .before .before .before .before .before .before .before .before .before .before .before .pre .1 .0 .placed .of .count) (c .before .before .before .before .before .before .before .before .before .before .before .before .before .before .before .before .before .instr-at .result) (c .before .before .before .before .before .before .before .before .before .before .before .before .before .before .before .before .before .instr-at .ensures)) (onwardIn
+    (c .before .before .before .before .before .before .before .before .block-at .result) (c .before .before .before .before .before .before .before .before .block-at .last .1 .1 .1 .0) (c .before .before .before .before .before .before .before .before .block-at .last .1 .1 .1 .1 .0) (c .before .before .before .before .before .before .before .before .block-at .last .1 .1 .1 .1 .1 .0)
+    (c .before .before .before .before .before .before .before .before .block-at .last .1 .1 .1 .1 .1 .1 .0)) _ _ (c .before .before .before .before .before .before .before .before .block-at .ensures .2) (c .enum-told4 .given .1), c .before .before .before .before .before .before .before .before .block-at .ensures .3 .2)
+
+-- src/lib.rt:104:21
+interp-region-enum-told-5 : (t : ℕ) → interp-region-lts.Need-enum-told-5 (
+  instr-at-reads.Asked,
+  instr-at-reads.Learnt,
+  is-straight-reads.Asked,
+  is-straight-reads.Learnt,
+  step-reads.Asked,
+  step-reads.Learnt,
+  block-at-below t,
+  block-at.Post,
+) (interp-region-at t) interp-region.Post interp-region-Inv-loop interp-region-μ-loop
+interp-region-enum-told-5 t c = search needs
+
+-- src/lib.rt:104:21
 interp-region-same-length-5 : (t : ℕ) → interp-region-lts.Need-same-length-5 (
   instr-at-reads.Asked,
   instr-at-reads.Learnt,
@@ -934,14 +938,12 @@ interp-region-same-length-5 : (t : ℕ) → interp-region-lts.Need-same-length-5
   is-straight-reads.Learnt,
   step-reads.Asked,
   step-reads.Learnt,
-  passed-reads.Asked,
-  passed-reads.Learnt,
   block-at-below t,
   block-at.Post,
 ) (interp-region-at t) interp-region.Post interp-region-Inv-loop interp-region-μ-loop
 interp-region-same-length-5 t c = search needs
 
--- src/lib.rt:103:21
+-- src/lib.rt:104:21
 interp-region-same-length-6 : (t : ℕ) → interp-region-lts.Need-same-length-6 (
   instr-at-reads.Asked,
   instr-at-reads.Learnt,
@@ -949,14 +951,12 @@ interp-region-same-length-6 : (t : ℕ) → interp-region-lts.Need-same-length-6
   is-straight-reads.Learnt,
   step-reads.Asked,
   step-reads.Learnt,
-  passed-reads.Asked,
-  passed-reads.Learnt,
   block-at-below t,
   block-at.Post,
 ) (interp-region-at t) interp-region.Post interp-region-Inv-loop interp-region-μ-loop
 interp-region-same-length-6 t c = search needs
 
--- src/lib.rt:103:21
+-- src/lib.rt:104:21
 interp-region-returns-3 : (t : ℕ) → interp-region-lts.Need-returns-3 (
   instr-at-reads.Asked,
   instr-at-reads.Learnt,
@@ -964,14 +964,16 @@ interp-region-returns-3 : (t : ℕ) → interp-region-lts.Need-returns-3 (
   is-straight-reads.Learnt,
   step-reads.Asked,
   step-reads.Learnt,
-  passed-reads.Asked,
-  passed-reads.Learnt,
   block-at-below t,
   block-at.Post,
 ) (interp-region-at t) interp-region.Post interp-region-Inv-loop interp-region-μ-loop
-interp-region-returns-3 t c = (c .before .before .before .before .before .before .before .before .block-at .ensures .0, c .before .before .before .before .before .before .before .before .block-at .ensures .1, Cycle.walking-stopped (c .before .before .before .before .before .before .before .before .before .before .before .before .before .before .before .before .before .before .before .before .before .before .before .args .t .now) (c .before .before .before .before .before .before .before .before .before .before .before .before .before .before .before .before .before .before .before .before .before .before .before .args .heights .now) (c .before .before .before .before .before .before .before .before .before .before .before .before .before .before .before .before .before .before .before .before .before .before .before .args .blinds .now) (c .before .before .before .before .before .before .before .before .before .before .before .before .before .before .before .before .before .before .before .before .before .before .before .args .x) (c .before .before .before .before .before .before .before .before .before .before .before .before .before .before .before .before .before .before .before .before .before .before .before .args .start) (c .before .before .before .before .before .before .before .before .before .before .before .before .before .before .before .before .before .before .before .before .before .before .before .args .end) (c .before .before .before .before .before .before .before .before .before .before .before .before .before .before .before .before .before .before .before .before .before .before .before .args .floor) (at (c .before .before .before .before .before .before .before .before .before .before .before .before .before .before .before .before .before .before .before .before .before .before .before .args .height) (c .before .before .before .before .before .before .before .before .before .before .before .before .before .before .before .before .before .before .before .before .before .before .before .args .slots .now) (c .before .before .before .before .before .before .before .before .before .before .before .before .before .before .before .before .before .before .before .before .before .before .before .args .places .now)) (breaksIn (c .before .before .before .before .before .before .before .before .before .before .before .before .before .before .before .before .before .before .before .before .before .before .before .args .b) (c .before .before .before .before .before .before .before .before .before .before .before .before .before .before .before .before .before .before .before .before .before .before .before .args .broken .now) (c .before .before .before .before .before .before .before .before .before .before .before .before .before .before .before .before .before .before .before .before .before .before .before .args .held .now)) (c .before .before .before .before .before .before .before .before .before .before .before .before .before .before .before .before .before .before .before .loop .heights) (c .before .before .before .before .before .before .before .before .before .before .before .before .before .before .before .before .before .before .before .loop .blinds) (c .before .before .before .before .before .before .before .before .before .before .before .before .before .before .before .before .before .before .before .loop .ip) (at (c .before .before .before .before .before .before .before .before .before .before .before .before .before .before .before .before .before .before .before .loop .h) (c .before .before .before .before .before .before .before .before .before .before .before .before .before .before .before .before .before .before .before .loop .slots) (c .before .before .before .before .before .before .before .before .before .before .before .before .before .before .before .before .before .before .before .loop .places)) (breaksIn (c .before .before .before .before .before .before .before .before .before .before .before .before .before .before .before .before .before .before .before .loop .k) (c .before .before .before .before .before .before .before .before .before .before .before .before .before .before .before .before .before .before .before .loop .broken) (c .before .before .before .before .before .before .before .before .before .before .before .before .before .before .before .before .before .before .before .loop .held)) (c .before .before .before .before .before .before .before .before .before .before .before .before .before .before .before .before .before .before .before .loop .inv .2) (c .before .before .before .before .before .before .before .before .before .before .before .before .before .before .before .before .before .before .loop-test .taken) (c .before .before .before .before .before .before .before .before .before .before .before .before .before .before .before .before .before .instr-at .result .code) (c .before .before .before .before .before .before .before .before .before .before .before .before .before .before .before .before .before .instr-at .result .a) (Codes.leads-here (c .before .before .before .before .before .before .before .before .before .before .before .before .before .before .before .before .before .before .before .before .before .before .before .args .t .now) (c .before .before .before .before .before .before .before .before .before .before .before .before .before .before .before .before .before .before .before .before .before .before .before .args .x .chunk) (c .before .before .before .before .before .before .before .before .before .before .before .before .before .before .before .before .before .before .before .before .before .before .before .args .x .first) (c .before .before .before .before .before .before .before .before .before .before .before .before .before .before .before .before .before .before .before .before .before .before .before .args .x .count) (c .before .before .before .before .before .before .before .before .before .before .before .before .before .before .before .before .before .before .before .loop .ip) (c .before .before .before .before .before .before .before .before .before .before .before .before .before .before .before .before .before .before .before .before .before .before .before .pre .1 .0 .placed .of .first) (c .before .before .before .before .before .before .before .before .before .before .before .before .before .before .before .before .before .before .before .before .before .before .before .pre .1 .0 .placed .of .count) (c .before .before .before .before .before .before .before .before .before .before .before .before .before .before .before .before .before .instr-at .result) (c .before .before .before .before .before .before .before .before .before .before .before .before .before .before .before .before .before .instr-at .ensures)) (onwardIn (c .before .before .before .before .before .before .before .before .block-at .result) (c .before .before .before .before .before .before .before .before .block-at .last .1 .1 .1 .0) (c .before .before .before .before .before .before .before .before .block-at .last .1 .1 .1 .1 .0) (c .before .before .before .before .before .before .before .before .block-at .last .1 .1 .1 .1 .1 .0) (c .before .before .before .before .before .before .before .before .block-at .last .1 .1 .1 .1 .1 .1 .0)) _ _ (c .before .before .before .before .before .before .before .before .block-at .ensures .2) (c .enum-told3 .given .1), c .before .before .before .before .before .before .before .before .block-at .ensures .3 .2)
+interp-region-returns-3 t c =
+    (c .before .before .before .before .before .before .before .before .block-at .ensures .0, c .before .before .before .before .before .before .before .before .block-at .ensures .1, Cycle.walking-stopped (c .before .before .before .before .before .before .before .before .before .before .before .before .before .before .before .before .before .before .before .before .before .before .before .args .t .now) (c .before .before .before .before .before .before .before .before .before .before .before .before .before .before .before .before .before .before .before .before .before .before .before .args .heights .now) (c .before .before .before .before .before .before .before .before .before .before .before .before .before .before .before .before .before .before .before .before .before .before .before .args .blinds .now) (c .before .before .before .before .before .before .before .before .before .before .before .before .before .before .before .before .before .before .before .before .before .before .before .args .x) (c .before .before .before .before .before .before .before .before .before .before .before .before .before .before .before .before .before .before .before .before .before .before .before .args .start) (c .before .before .before .before .before .before .before .before .before .before .before .before .before .before .before .before .before .before .before .before .before .before .before .args .end) (c .before .before .before .before .before .before .before .before .before .before .before .before .before .before .before .before .before .before .before .before .before .before .before .args .floor) (at (c .before .before .before .before .before .before .before .before .before .before .before .before .before .before .before .before .before .before .before .before .before .before .before .args .height) (c .before .before .before .before .before .before .before .before .before .before .before .before .before .before .before .before .before .before .before .before .before .before .before .args .slots .now) (c .before .before .before .before .before .before .before .before .before .before .before .before .before .before .before .before .before .before .before .before .before .before .before .args .places .now)) (breaksIn (c .before .before .before .before .before .before .before .before .before .before .before .before .before .before .before .before .before .before .before .before .before .before .before .args .b) (c .before .before .before .before .before .before .before .before .before .before .before .before .before .before .before .before .before .before .before .before .before .before .before .args .broken .now) (c .before .before .before .before .before .before .before .before .before .before .before .before .before .before .before .before .before .before .before .before .before .before .before .args .held .now)) (c .before .before .before .before .before .before .before .before .before .before .before .before .before .before .before .before .before .before .before .loop .heights)
+    (c .before .before .before .before .before .before .before .before .before .before .before .before .before .before .before .before .before .before .before .loop .blinds) (c .before .before .before .before .before .before .before .before .before .before .before .before .before .before .before .before .before .before .before .loop .ip) (at (c .before .before .before .before .before .before .before .before .before .before .before .before .before .before .before .before .before .before .before .loop .h) (c .before .before .before .before .before .before .before .before .before .before .before .before .before .before .before .before .before .before .before .loop .slots) (c .before .before .before .before .before .before .before .before .before .before .before .before .before .before .before .before .before .before .before .loop .places)) (breaksIn (c .before .before .before .before .before .before .before .before .before .before .before .before .before .before .before .before .before .before .before .loop .k) (c .before .before .before .before .before .before .before .before .before .before .before .before .before .before .before .before .before .before .before .loop .broken) (c .before .before .before .before .before .before .before .before .before .before .before .before .before .before .before .before .before .before .before .loop .held)) (c .before .before .before .before .before .before .before .before .before .before .before .before .before .before .before .before .before .before .before .loop .inv .2) (c .before .before .before .before .before .before .before .before .before .before .before .before .before .before .before .before .before .before .loop-test .taken) (c .before .before .before .before .before .before .before .before .before .before .before .before .before .before .before .before .before .instr-at .result .code) (c .before .before .before .before .before .before .before .before .before .before .before .before .before .before .before .before .before .instr-at .result .a) (Codes.leads-here (c .before .before .before .before .before .before .before .before .before .before .before .before .before .before .before .before .before .before .before .before .before .before .before .args .t .now) (c .before .before .before .before .before .before .before .before .before .before .before .before .before .before .before .before .before .before .before .before .before .before .before .args .x .chunk) (c .before .before .before .before .before .before .before .before .before .before .before .before .before .before .before .before .before .before .before .before .before .before .before .args .x .first) (c .before .before .before .before .before .before .before .before .before .before .before .before .before .before .before .before .before .before .before .before .before .before .before .args .x .count) (c .before .before .before .before .before .before .before .before .before .before .before .before .before .before .before .before .before .before .before .loop .ip) (c .before .before .before .before .before .before .before .before .before .before .before .before .before .before .before .before .before .before .before .before .before .before .before .pre .1 .0 .placed .of .first) (c .before .before .before .before .before .before .before .before .before .before .before .before .before .before .before .before .before .before .before .before .before .before .before .pre .1 .0 .placed .of .count) (c .before .before .before .before .before .before .before .before .before .before .before .before .before .before .before .before .before .instr-at .result) (c .before .before .before .before .before .before .before .before .before .before .before .before .before .before .before .before .before .instr-at .ensures)) (onwardIn
+    (c .before .before .before .before .before .before .before .before .block-at .result) (c .before .before .before .before .before .before .before .before .block-at .last .1 .1 .1 .0) (c .before .before .before .before .before .before .before .before .block-at .last .1 .1 .1 .1 .0) (c .before .before .before .before .before .before .before .before .block-at .last .1 .1 .1 .1 .1 .0)
+    (c .before .before .before .before .before .before .before .before .block-at .last .1 .1 .1 .1 .1 .1 .0)) _ _ (c .before .before .before .before .before .before .before .before .block-at .ensures .2) (c .enum-told5 .given .1), c .before .before .before .before .before .before .before .before .block-at .ensures .3 .2)
 
--- src/lib.rt:31:1
+-- src/lib.rt:32:1
 interp-region-same-length-7 : (t : ℕ) → interp-region-lts.Need-same-length-7 (
   instr-at-reads.Asked,
   instr-at-reads.Learnt,
@@ -979,14 +981,12 @@ interp-region-same-length-7 : (t : ℕ) → interp-region-lts.Need-same-length-7
   is-straight-reads.Learnt,
   step-reads.Asked,
   step-reads.Learnt,
-  passed-reads.Asked,
-  passed-reads.Learnt,
   block-at-below t,
   block-at.Post,
 ) (interp-region-at t) interp-region.Post interp-region-Inv-loop interp-region-μ-loop
 interp-region-same-length-7 t c = search needs
 
--- src/lib.rt:31:1
+-- src/lib.rt:32:1
 interp-region-same-length-8 : (t : ℕ) → interp-region-lts.Need-same-length-8 (
   instr-at-reads.Asked,
   instr-at-reads.Learnt,
@@ -994,14 +994,12 @@ interp-region-same-length-8 : (t : ℕ) → interp-region-lts.Need-same-length-8
   is-straight-reads.Learnt,
   step-reads.Asked,
   step-reads.Learnt,
-  passed-reads.Asked,
-  passed-reads.Learnt,
   block-at-below t,
   block-at.Post,
 ) (interp-region-at t) interp-region.Post interp-region-Inv-loop interp-region-μ-loop
 interp-region-same-length-8 t c = search needs
 
--- src/lib.rt:31:1
+-- src/lib.rt:32:1
 interp-region-returns-4 : (t : ℕ) → interp-region-lts.Need-returns-4 (
   instr-at-reads.Asked,
   instr-at-reads.Learnt,
@@ -1009,14 +1007,14 @@ interp-region-returns-4 : (t : ℕ) → interp-region-lts.Need-returns-4 (
   is-straight-reads.Learnt,
   step-reads.Asked,
   step-reads.Learnt,
-  passed-reads.Asked,
-  passed-reads.Learnt,
   block-at-below t,
   block-at.Post,
 ) (interp-region-at t) interp-region.Post interp-region-Inv-loop interp-region-μ-loop
-interp-region-returns-4 t c = (c .before .loop .inv .0, c .before .loop .inv .1, Cycle.walking-end (c .before .before .before .before .before .args .t .now) (c .before .before .before .before .before .args .heights .now) (c .before .before .before .before .before .args .blinds .now) (c .before .before .before .before .before .args .x) (c .before .before .before .before .before .args .start) (c .before .before .before .before .before .args .end) (c .before .before .before .before .before .args .floor) (at (c .before .before .before .before .before .args .height) (c .before .before .before .before .before .args .slots .now) (c .before .before .before .before .before .args .places .now)) (breaksIn (c .before .before .before .before .before .args .b) (c .before .before .before .before .before .args .broken .now) (c .before .before .before .before .before .args .held .now)) (c .before .loop .heights) (c .before .loop .blinds) (c .before .loop .ip) (at (c .before .loop .h) (c .before .loop .slots) (c .before .loop .places)) (breaksIn (c .before .loop .k) (c .before .loop .broken) (c .before .loop .held)) (c .before .loop .inv .2) (omega (arith, c .loop-test .left)), ((c .before .loop .inv .2) .ready .height-low, (c .before .loop .inv .2) .ready .breaks-low))
+interp-region-returns-4 t c =
+    (c .before .loop .inv .0, c .before .loop .inv .1, Cycle.walking-end (c .before .before .before .before .before .args .t .now) (c .before .before .before .before .before .args .heights .now) (c .before .before .before .before .before .args .blinds .now) (c .before .before .before .before .before .args .x) (c .before .before .before .before .before .args .start) (c .before .before .before .before .before .args .end) (c .before .before .before .before .before .args .floor) (at (c .before .before .before .before .before .args .height) (c .before .before .before .before .before .args .slots .now) (c .before .before .before .before .before .args .places .now)) (breaksIn (c .before .before .before .before .before .args .b) (c .before .before .before .before .before .args .broken .now) (c .before .before .before .before .before .args .held .now)) (c .before .loop .heights) (c .before .loop .blinds) (c .before .loop .ip)
+    (at (c .before .loop .h) (c .before .loop .slots) (c .before .loop .places)) (breaksIn (c .before .loop .k) (c .before .loop .broken) (c .before .loop .held)) (c .before .loop .inv .2) (omega (arith, c .loop-test .left)), ((c .before .loop .inv .2) .ready .height-low, (c .before .loop .inv .2) .ready .breaks-low))
 
--- src/lib.rt:597:16
+-- src/lib.rt:598:16
 last-pass-add-body : (t : ℕ) → last-pass-lts.Need-add-body (
   invalidate-written-locals-reads.Asked,
   invalidate-written-locals-reads.Learnt,
@@ -1029,7 +1027,7 @@ last-pass-add-body : (t : ℕ) → last-pass-lts.Need-add-body (
 ) (last-pass-at t) last-pass.Post
 last-pass-add-body t c = omega (arith, c .before .before .before .pre .1 .1 .1 .0, c .before .before .before .pre .1 .1 .1 .1, c .before .before .before .fits)
 
--- src/lib.rt:598:16
+-- src/lib.rt:599:16
 last-pass-sub-last : (t : ℕ) → last-pass-lts.Need-sub-last (
   invalidate-written-locals-reads.Asked,
   invalidate-written-locals-reads.Learnt,
@@ -1042,7 +1040,7 @@ last-pass-sub-last : (t : ℕ) → last-pass-lts.Need-sub-last (
 ) (last-pass-at t) last-pass.Post
 last-pass-sub-last t c = omega (arith, c .before .before .before .pre .1 .1 .1 .0)
 
--- src/lib.rt:599:5
+-- src/lib.rt:600:5
 last-pass-invalidate-written-locals-requires :
     (t : ℕ) → last-pass-lts.Need-invalidate-written-locals-requires (
       invalidate-written-locals-reads.Asked,
@@ -1056,7 +1054,7 @@ last-pass-invalidate-written-locals-requires :
     ) (last-pass-at t) last-pass.Post
 last-pass-invalidate-written-locals-requires t c κs = (c .before .before .before .before .before .pre .1 .1 .0 .2, (c .before .before .before .before .before .pre .1 .0 .of .first, c .before .before .before .before .before .pre .1 .0 .of .count, c .before .before .before .before .before .pre .1 .0 .of .within, omega (arith, c .before .before .before .before .before .pre .1 .1 .1 .0, c .before .before .before .before .before .pre .1 .1 .1 .1), omega (arith, c .before .before .before .before .before .pre .1 .0 .of .locals, locals-low (c .before .before .before .before .before .args .t .now) (c .before .before .before .before .before .args .x .chunk))))
 
--- src/lib.rt:600:5
+-- src/lib.rt:601:5
 last-pass-copy-requires : (t : ℕ) → last-pass-lts.Need-copy-requires (
   invalidate-written-locals-reads.Asked,
   invalidate-written-locals-reads.Learnt,
@@ -1069,7 +1067,7 @@ last-pass-copy-requires : (t : ℕ) → last-pass-lts.Need-copy-requires (
 ) (last-pass-at t) last-pass.Post
 last-pass-copy-requires t c κs = (c .before .before .before .before .before .before .before .before .before .before .pre .1 .1 .0 .0, c .before .before .before .before .invalidate-written-locals .ensures .0, c .before .before .before .before .before .before .before .before .before .before .pre .1 .1 .1 .3, omega (arith, c .before .before .before .before .before .before .before .before .before .before .pre .1 .0 .of .locals, locals-low (c .before .before .before .before .before .before .before .before .before .before .args .t .now) (c .before .before .before .before .before .before .before .before .before .before .args .x .chunk)))
 
--- src/lib.rt:605:9
+-- src/lib.rt:606:9
 last-pass-interp-region-requires : (t : ℕ) → last-pass-lts.Need-interp-region-requires (
   invalidate-written-locals-reads.Asked,
   invalidate-written-locals-reads.Learnt,
@@ -1080,9 +1078,13 @@ last-pass-interp-region-requires : (t : ℕ) → last-pass-lts.Need-interp-regio
   last-end-reads.Asked,
   last-end-reads.Learnt,
 ) (last-pass-at t) last-pass.Post
-last-pass-interp-region-requires t c κs = (omega (arith, c .before .before .before .before .before .before .before .before .before .before .before .before .before .before .before .before .before .pre .0, c .before .before .before .before .before .before .before .before .before .before .before .before .before .before .before .before .before .pre .1 .1 .1 .0), (record { placed = c .before .before .before .before .before .before .before .before .before .before .before .before .before .before .before .before .before .pre .1 .0; from = c .before .before .before .before .before .before .before .before .before .before .before .before .before .before .before .before .before .args .ip + 1; arm = Cycle.loop-arm-in (c .before .before .before .before .before .before .before .before .before .before .before .before .before .before .before .before .before .args .t .now) (c .before .before .before .before .before .before .before .before .before .before .before .before .before .before .before .before .before .args .x) (c .before .before .before .before .before .before .before .before .before .before .before .before .before .before .before .before .before .args .ip) (c .before .before .before .before .before .before .before .before .before .before .before .before .before .before .before .before .before .args .exit) (c .before .before .before .before .before .before .before .before .before .before .before .before .before .before .before .before .before .pre .1 .0 .of .first) (c .before .before .before .before .before .before .before .before .before .before .before .before .before .before .before .before .before .pre .1 .0 .of .count) (omega (arith, c .before .before .before .before .before .before .before .before .before .before .before .before .before .before .before .before .before .pre .1 .1 .1 .0, c .before .before .before .before .before .before .before .before .before .before .before .before .before .before .before .before .before .pre .1 .1 .1 .1)) (c .before .before .before .before .before .before .before .before .before .before .before .before .before .before .before .before .before .pre .1 .1 .1 .4); after = omega arith; before = omega (arith, c .before .before .before .before .before .before .before .before .before .before .before .before .before .before .before .before .before .pre .1 .1 .1 .0); floor-low = c .before .before .before .before .before .before .before .before .before .before .before .before .before .before .before .before .before .pre .1 .1 .1 .2; height-low = c .before .before .before .before .before .before .before .before .before .before .before .before .before .before .before .before .before .pre .1 .1 .1 .3; breaks-low = omega arith }, (c .before .before .before .before .before .before .copy .ensures .0, c .before .before .before .before .before .before .before .before .before .before .before .before .before .before .before .before .before .pre .1 .1 .0 .1)))
+last-pass-interp-region-requires t c κs =
+    (omega (arith, c .before .before .before .before .before .before .before .before .before .before .before .before .before .before .before .before .before .pre .0, c .before .before .before .before .before .before .before .before .before .before .before .before .before .before .before .before .before .pre .1 .1 .1 .0), (record { placed = c .before .before .before .before .before .before .before .before .before .before .before .before .before .before .before .before .before .pre .1 .0; from = c .before .before .before .before .before .before .before .before .before .before .before .before .before .before .before .before .before .args .ip + 1; arm = Cycle.loop-arm-in (c .before .before .before .before .before .before .before .before .before .before .before .before .before .before .before .before .before .args .t .now) (c .before .before .before .before .before .before .before .before .before .before .before .before .before .before .before .before .before .args .x) (c .before .before .before .before .before .before .before .before .before .before .before .before .before .before .before .before .before .args .ip) (c .before .before .before .before .before .before .before .before .before .before .before .before .before .before .before .before .before .args .exit)
+    (c .before .before .before .before .before .before .before .before .before .before .before .before .before .before .before .before .before .pre .1 .0 .of .first) (c .before .before .before .before .before .before .before .before .before .before .before .before .before .before .before .before .before .pre .1 .0 .of .count) (omega (arith, c .before .before .before .before .before .before .before .before .before .before .before .before .before .before .before .before .before .pre .1 .1 .1 .0, c .before .before .before .before .before .before .before .before .before .before .before .before .before .before .before .before .before .pre .1 .1 .1 .1)) (c .before .before .before .before .before .before .before .before .before .before .before .before .before .before .before .before .before .pre .1 .1 .1 .4); after = omega arith; before = omega
+    (arith, c .before .before .before .before .before .before .before .before .before .before .before .before .before .before .before .before .before .pre .1 .1 .1 .0); floor-low = c .before .before .before .before .before .before .before .before .before .before .before .before .before .before .before .before .before .pre .1 .1 .1 .2; height-low = c .before .before .before .before .before .before .before .before .before .before .before .before .before .before .before .before .before .pre .1 .1 .1 .3; breaks-low = omega arith }, (c .before .before .before .before .before .before .copy .ensures .0,
+    c .before .before .before .before .before .before .before .before .before .before .before .before .before .before .before .before .before .pre .1 .1 .0 .1)))
 
--- src/lib.rt:620:5
+-- src/lib.rt:621:5
 last-pass-last-end-requires : (t : ℕ) → last-pass-lts.Need-last-end-requires (
   invalidate-written-locals-reads.Asked,
   invalidate-written-locals-reads.Learnt,
@@ -1093,9 +1095,11 @@ last-pass-last-end-requires : (t : ℕ) → last-pass-lts.Need-last-end-requires
   last-end-reads.Asked,
   last-end-reads.Learnt,
 ) (last-pass-at t) last-pass.Post
-last-pass-last-end-requires t c κs = (c .before .before .before .before .before .before .before .before .before .before .interp-region .ensures .0, c .before .before .before .before .before .before .before .before .before .before .before .before .before .before .before .before .before .before .before .before .before .before .invalidate-written-locals .ensures .0, c .before .before .before .before .before .before .before .before .before .before .interp-region .ensures .1, c .before .before .before .before .before .before .before .before .before .before .interp-region .ensures .3, c .before .before .before .before .before .before .before .before .before .before .before .before .before .before .before .before .before .before .before .before .before .before .before .before .before .before .before .before .pre .1 .1 .1 .3, omega (arith, c .before .before .before .before .before .before .before .before .before .before .before .before .before .before .before .before .before .before .before .before .before .before .before .before .before .before .before .before .pre .1 .0 .of .locals, locals-low (c .before .before .before .before .before .before .before .before .before .before .before .before .before .before .before .before .before .before .before .before .before .before .before .before .before .before .before .before .args .t .now) (c .before .before .before .before .before .before .before .before .before .before .before .before .before .before .before .before .before .before .before .before .before .before .before .before .before .before .before .before .args .x .chunk)))
+last-pass-last-end-requires t c κs =
+    (c .before .before .before .before .before .before .before .before .before .before .interp-region .ensures .0, c .before .before .before .before .before .before .before .before .before .before .before .before .before .before .before .before .before .before .before .before .before .before .invalidate-written-locals .ensures .0, c .before .before .before .before .before .before .before .before .before .before .interp-region .ensures .1, c .before .before .before .before .before .before .before .before .before .before .interp-region .ensures .3, c .before .before .before .before .before .before .before .before .before .before .before .before .before .before .before .before .before .before .before .before .before .before .before .before .before .before .before .before .pre .1 .1 .1 .3, omega
+    (arith, c .before .before .before .before .before .before .before .before .before .before .before .before .before .before .before .before .before .before .before .before .before .before .before .before .before .before .before .before .pre .1 .0 .of .locals, locals-low (c .before .before .before .before .before .before .before .before .before .before .before .before .before .before .before .before .before .before .before .before .before .before .before .before .before .before .before .before .args .t .now) (c .before .before .before .before .before .before .before .before .before .before .before .before .before .before .before .before .before .before .before .before .before .before .before .before .before .before .before .before .args .x .chunk)))
 
--- src/lib.rt:575:1
+-- src/lib.rt:576:1
 last-pass-same-length : (t : ℕ) → last-pass-lts.Need-same-length (
   invalidate-written-locals-reads.Asked,
   invalidate-written-locals-reads.Learnt,
@@ -1108,7 +1112,7 @@ last-pass-same-length : (t : ℕ) → last-pass-lts.Need-same-length (
 ) (last-pass-at t) last-pass.Post
 last-pass-same-length t c = search needs
 
--- src/lib.rt:575:1
+-- src/lib.rt:576:1
 last-pass-same-length-2 : (t : ℕ) → last-pass-lts.Need-same-length-2 (
   invalidate-written-locals-reads.Asked,
   invalidate-written-locals-reads.Learnt,
@@ -1121,7 +1125,7 @@ last-pass-same-length-2 : (t : ℕ) → last-pass-lts.Need-same-length-2 (
 ) (last-pass-at t) last-pass.Post
 last-pass-same-length-2 t c = search needs
 
--- src/lib.rt:575:1
+-- src/lib.rt:576:1
 last-pass-returns : (t : ℕ) → last-pass-lts.Need-returns (
   invalidate-written-locals-reads.Asked,
   invalidate-written-locals-reads.Learnt,
@@ -1132,9 +1136,16 @@ last-pass-returns : (t : ℕ) → last-pass-lts.Need-returns (
   last-end-reads.Asked,
   last-end-reads.Learnt,
 ) (last-pass-at t) last-pass.Post
-last-pass-returns t c = (c .last-end .ensures .0, c .before .before .before .before .before .before .before .before .before .before .before .interp-region .ensures .1, c .before .before .before .before .before .before .before .before .before .before .before .before .before .before .before .before .before .before .before .before .before .before .before .invalidate-written-locals .ensures .0, Cycle.last-made (c .before .before .before .before .before .before .before .before .before .before .before .before .before .before .before .before .before .before .before .before .before .before .before .before .before .before .before .before .before .args .t .now) (c .before .before .before .before .before .before .before .before .before .before .before .before .before .before .before .before .before .before .before .before .before .before .before .before .before .before .before .before .before .args .x) (c .before .before .before .before .before .before .before .before .before .before .before .before .before .before .before .before .before .before .before .before .before .before .before .before .before .before .before .before .before .args .ip) (c .before .before .before .before .before .before .before .before .before .before .before .before .before .before .before .before .before .before .before .before .before .before .before .before .before .before .before .before .before .args .exit) (c .before .before .before .before .before .before .before .before .before .before .before .before .before .before .before .before .before .before .before .before .before .before .before .before .before .before .before .before .before .args .floor) (at (c .before .before .before .before .before .before .before .before .before .before .before .before .before .before .before .before .before .before .before .before .before .before .before .before .before .before .before .before .before .args .height) (c .before .before .before .before .before .before .before .before .before .before .before .before .before .before .before .before .before .before .before .before .before .before .before .before .before .before .before .before .before .args .head .now) (c .before .before .before .before .before .before .before .before .before .before .before .before .before .before .before .before .before .before .before .before .before .before .before .before .before .before .before .before .before .args .texts .now)) (at (c .before .before .before .before .before .before .before .before .before .before .before .before .before .before .before .before .before .before .before .before .before .before .before .before .before .before .before .before .before .args .height) (c .before .before .before .before .before .before .before .before .before .before .before .before .before .before .before .before .before .before .before .before .before .before .before .invalidate-written-locals .last .1 .0) (c .before .before .before .before .before .before .before .before .before .before .before .before .before .before .before .before .before .before .before .before .before .before .before .invalidate-written-locals .last .1 .1 .0)) (c .before .before .before .before .before .before .before .before .before .before .before .before .before .before .before .before .before .before .before .before .before .before .before .invalidate-written-locals .ensures .1 (c .before .before .before .before .before .before .before .before .before .before .before .before .before .before .before .before .before .before .before .before .before .before .before .before .before .before .before .before .before .args .height) (c .before .before .before .before .before .before .before .before .before .before .before .before .before .before .before .before .before .before .before .before .before .before .before .before .before .before .before .before .before .pre .1 .1 .1 .3)) (breaksIn (record { pending = Nothing; height = 0 }) (c .before .before .before .before .before .before .before .before .before .before .before .before .before .before .before .before .before .before .before .before .before .before .before .before .before .before .before .before .before .args .broken .now) (c .before .before .before .before .before .before .before .before .before .before .before .before .before .before .before .before .before .before .before .before .before .before .before .before .before .before .before .before .before .args .held .now)) refl (outcomeIn (c .before .before .before .before .before .before .before .before .before .before .before .interp-region .result) (c .before .before .before .before .before .before .before .before .before .before .before .interp-region .last .1 .1 .1 .0) (c .before .before .before .before .before .before .before .before .before .before .before .interp-region .last .1 .1 .1 .1 .0) (c .before .before .before .before .before .before .before .before .before .before .before .interp-region .last .1 .1 .1 .1 .1 .0) (c .before .before .before .before .before .before .before .before .before .before .before .interp-region .last .1 .1 .1 .1 .1 .1 .0)) _ _ (c .before .before .before .before .before .before .before .before .before .before .before .interp-region .ensures .2 ∙ ap (λ (z : AnyState). full (Visits.chunkIn (c .before .before .before .before .before .before .before .before .before .before .before .before .before .before .before .before .before .before .before .before .before .before .before .before .before .before .before .before .before .args .t .now) (c .before .before .before .before .before .before .before .before .before .before .before .before .before .before .before .before .before .before .before .before .before .before .before .before .before .before .before .before .before .args .x)) (c .before .before .before .before .before .before .before .before .before .before .before .before .before .before .before .before .before .before .before .before .before .before .before .before .before .before .before .before .before .args .ip + 1) (c .before .before .before .before .before .before .before .before .before .before .before .before .before .before .before .before .before .before .before .before .before .before .before .before .before .before .before .before .before .args .exit - 1) (c .before .before .before .before .before .before .before .before .before .before .before .before .before .before .before .before .before .before .before .before .before .before .before .before .before .before .before .before .before .args .floor) z (Outcomes.breaksOf (c .before .before .before .before .before .before .before .before .before .before .before .before .before .before .before .before .before .before .before .before .before .before .before .before .before .before .before .before .before .args .x .locals) (breaksIn (record { pending = Nothing; height = 0 }) (c .before .before .before .before .before .before .before .before .before .before .before .before .before .before .before .before .before .before .before .before .before .before .before .before .before .before .before .before .before .args .broken .now) (c .before .before .before .before .before .before .before .before .before .before .before .before .before .before .before .before .before .before .before .before .before .before .before .before .before .before .before .before .before .args .held .now))) (sheetsOf (c .before .before .before .before .before .before .before .before .before .before .before .before .before .before .before .before .before .before .before .before .before .before .before .before .before .before .before .before .before .args .heights .now) (c .before .before .before .before .before .before .before .before .before .before .before .before .before .before .before .before .before .before .before .before .before .before .before .before .before .before .before .before .before .args .blinds .now))) (c .before .before .before .before .before .before .before .before .before .before .before .before .before .before .before .before .before .before .copy .ensures .1)) (leftIn (c .last-end .result) (c .last-end .last .1 .0) (c .last-end .last .1 .1 .0)) (c .last-end .ensures .1 _), c .last-end .ensures .2)
+last-pass-returns t c =
+    (c .last-end .ensures .0, c .before .before .before .before .before .before .before .before .before .before .before .interp-region .ensures .1, c .before .before .before .before .before .before .before .before .before .before .before .before .before .before .before .before .before .before .before .before .before .before .before .invalidate-written-locals .ensures .0, Cycle.last-made (c .before .before .before .before .before .before .before .before .before .before .before .before .before .before .before .before .before .before .before .before .before .before .before .before .before .before .before .before .before .args .t .now) (c .before .before .before .before .before .before .before .before .before .before .before .before .before .before .before .before .before .before .before .before .before .before .before .before .before .before .before .before .before .args .x) (c .before .before .before .before .before .before .before .before .before .before .before .before .before .before .before .before .before .before .before .before .before .before .before .before .before .before .before .before .before .args .ip) (c .before .before .before .before .before .before .before .before .before .before .before .before .before .before .before .before .before .before .before .before .before .before .before .before .before .before .before .before .before .args .exit) (c .before .before .before .before .before .before .before .before .before .before .before .before .before .before .before .before .before .before .before .before .before .before .before .before .before .before .before .before .before .args .floor) (at (c .before .before .before .before .before .before .before .before .before .before .before .before .before .before .before .before .before .before .before .before .before .before .before .before .before .before .before .before .before .args .height)
+    (c .before .before .before .before .before .before .before .before .before .before .before .before .before .before .before .before .before .before .before .before .before .before .before .before .before .before .before .before .before .args .head .now) (c .before .before .before .before .before .before .before .before .before .before .before .before .before .before .before .before .before .before .before .before .before .before .before .before .before .before .before .before .before .args .texts .now)) (at (c .before .before .before .before .before .before .before .before .before .before .before .before .before .before .before .before .before .before .before .before .before .before .before .before .before .before .before .before .before .args .height) (c .before .before .before .before .before .before .before .before .before .before .before .before .before .before .before .before .before .before .before .before .before .before .before .invalidate-written-locals .last .1 .0) (c .before .before .before .before .before .before .before .before .before .before .before .before .before .before .before .before .before .before .before .before .before .before .before .invalidate-written-locals .last .1 .1 .0))
+    (c .before .before .before .before .before .before .before .before .before .before .before .before .before .before .before .before .before .before .before .before .before .before .before .invalidate-written-locals .ensures .1 (c .before .before .before .before .before .before .before .before .before .before .before .before .before .before .before .before .before .before .before .before .before .before .before .before .before .before .before .before .before .args .height) (c .before .before .before .before .before .before .before .before .before .before .before .before .before .before .before .before .before .before .before .before .before .before .before .before .before .before .before .before .before .pre .1 .1 .1 .3)) (breaksIn (record { pending = Nothing; height = 0 }) (c .before .before .before .before .before .before .before .before .before .before .before .before .before .before .before .before .before .before .before .before .before .before .before .before .before .before .before .before .before .args .broken .now)
+    (c .before .before .before .before .before .before .before .before .before .before .before .before .before .before .before .before .before .before .before .before .before .before .before .before .before .before .before .before .before .args .held .now)) refl (outcomeIn (c .before .before .before .before .before .before .before .before .before .before .before .interp-region .result) (c .before .before .before .before .before .before .before .before .before .before .before .interp-region .last .1 .1 .1 .0) (c .before .before .before .before .before .before .before .before .before .before .before .interp-region .last .1 .1 .1 .1 .0) (c .before .before .before .before .before .before .before .before .before .before .before .interp-region .last .1 .1 .1 .1 .1 .0) (c .before .before .before .before .before .before .before .before .before .before .before .interp-region .last .1 .1 .1 .1 .1 .1 .0)) _ _ (c .before .before .before .before .before .before .before .before .before .before .before .interp-region .ensures .2 ∙ ap (λ (z : AnyState). full (Visits.chunkIn (c .before .before .before .before .before .before .before .before .before .before .before .before .before .before .before .before .before .before .before .before .before .before .before .before .before .before .before .before .before .args .t .now) (c .before .before .before .before .before .before .before .before .before .before .before .before .before .before .before .before .before .before .before .before .before .before .before .before .before .before .before .before .before .args .x)) (c .before .before .before .before .before .before .before .before .before .before .before .before .before .before .before .before .before .before .before .before .before .before .before .before .before .before .before .before .before .args .ip + 1) (c .before .before .before .before .before .before .before .before .before .before .before .before .before .before .before .before .before .before .before .before .before .before .before .before .before .before .before .before .before .args .exit - 1) (c .before .before .before .before .before .before .before .before .before .before .before .before .before .before .before .before .before .before .before .before .before .before .before .before .before .before .before .before .before .args .floor) z
+    (Outcomes.breaksOf (c .before .before .before .before .before .before .before .before .before .before .before .before .before .before .before .before .before .before .before .before .before .before .before .before .before .before .before .before .before .args .x .locals) (breaksIn (record { pending = Nothing; height = 0 }) (c .before .before .before .before .before .before .before .before .before .before .before .before .before .before .before .before .before .before .before .before .before .before .before .before .before .before .before .before .before .args .broken .now) (c .before .before .before .before .before .before .before .before .before .before .before .before .before .before .before .before .before .before .before .before .before .before .before .before .before .before .before .before .before .args .held .now))) (sheetsOf
+    (c .before .before .before .before .before .before .before .before .before .before .before .before .before .before .before .before .before .before .before .before .before .before .before .before .before .before .before .before .before .args .heights .now) (c .before .before .before .before .before .before .before .before .before .before .before .before .before .before .before .before .before .before .before .before .before .before .before .before .before .before .before .before .before .args .blinds .now))) (c .before .before .before .before .before .before .before .before .before .before .before .before .before .before .before .before .before .before .copy .ensures .1)) (leftIn (c .last-end .result) (c .last-end .last .1 .0) (c .last-end .last .1 .1 .0)) (c .last-end .ensures .1 _),
+    c .last-end .ensures .2)
 
--- src/lib.rt:454:34
+-- src/lib.rt:455:34
 loop-at-add-mark-height : (t : ℕ) → loop-at-lts.Need-add-mark-height (
   mark-height-reads.Asked,
   mark-height-reads.Learnt,
@@ -1145,7 +1156,7 @@ loop-at-add-mark-height : (t : ℕ) → loop-at-lts.Need-add-mark-height (
 ) (loop-at-at t) loop-at.Post
 loop-at-add-mark-height t c = omega (arith, Cycle.inside (c .before .before .before .before .args .t .now) (c .before .before .before .before .args .heights .now) (c .before .before .before .before .args .blinds .now) (c .before .before .before .before .args .x) (c .before .before .before .before .args .ip) (c .before .before .before .before .args .end) (c .before .before .before .before .args .floor) _ _ (c .before .before .before .before .pre .1 .0) (c .before .before .before .before .pre .1 .1 .1 .0), c .before .before .before .before .pre .1 .0 .placed .of .within)
 
--- src/lib.rt:454:5
+-- src/lib.rt:455:5
 loop-at-mark-height-requires : (t : ℕ) → loop-at-lts.Need-mark-height-requires (
   mark-height-reads.Asked,
   mark-height-reads.Learnt,
@@ -1156,7 +1167,7 @@ loop-at-mark-height-requires : (t : ℕ) → loop-at-lts.Need-mark-height-requir
 ) (loop-at-at t) loop-at.Post
 loop-at-mark-height-requires t c κs = (omega (arith, Cycle.inside (c .before .before .before .before .args .t .now) (c .before .before .before .before .args .heights .now) (c .before .before .before .before .args .blinds .now) (c .before .before .before .before .args .x) (c .before .before .before .before .args .ip) (c .before .before .before .before .args .end) (c .before .before .before .before .args .floor) _ _ (c .before .before .before .before .pre .1 .0) (c .before .before .before .before .pre .1 .1 .1 .0), c .before .before .before .before .pre .1 .0 .placed .heights-long), c .before .before .before .before .pre .1 .0 .height-low)
 
--- src/lib.rt:455:9
+-- src/lib.rt:456:9
 loop-at-passes-at-requires : (t : ℕ) → loop-at-lts.Need-passes-at-requires (
   mark-height-reads.Asked,
   mark-height-reads.Learnt,
@@ -1165,9 +1176,12 @@ loop-at-passes-at-requires : (t : ℕ) → loop-at-lts.Need-passes-at-requires (
   onward-after-reads.Asked,
   onward-after-reads.Learnt,
 ) (loop-at-at t) loop-at.Post
-loop-at-passes-at-requires t c κs = let q = Cycle.loop-in (c .before .before .before .before .before .before .before .before .before .before .before .before .before .args .t .now) (c .before .before .before .before .before .before .before .before .before .before .before .before .before .args .heights .now) (c .before .before .before .before .before .before .before .before .before .before .before .before .before .args .blinds .now) (c .before .before .before .before .before .before .before .before .before .before .before .before .before .args .x) (c .before .before .before .before .before .before .before .before .before .before .before .before .before .args .target) (c .before .before .before .before .before .before .before .before .before .before .before .before .before .args .ip) (c .before .before .before .before .before .before .before .before .before .before .before .before .before .args .end) (c .before .before .before .before .before .before .before .before .before .before .before .before .before .args .floor) _ _ (c .before .before .before .before .before .before .before .before .before .before .before .before .before .pre .1 .0) (c .before .before .before .before .before .before .before .before .before .before .before .before .before .pre .1 .1 .1 .0) (c .before .before .before .before .before .before .before .before .before .before .before .before .before .pre .1 .1 .1 .1) in (omega (arith, c .before .before .before .before .before .before .before .before .before .before .before .before .before .pre .0, q .0, q .1), (Cycle.placed-by (c .before .before .before .before .before .before .before .before .before .before .before .before .before .args .t .now) (c .before .before .before .before .before .before .before .before .before .before .before .before .before .args .heights .now) (c .before .before .before .before .before .before .before .before .before .before .before .before .before .args .blinds .now) _ (c .before .before .before .before .before .before .before .before .before .before .before .before .before .args .blinds .now) (c .before .before .before .before .before .before .before .before .before .before .before .before .before .args .x) (c .before .before .before .before .before .before .before .before .mark-height .kept .0) refl (c .before .before .before .before .before .before .before .before .before .before .before .before .before .pre .1 .0 .placed), ((c .before .before .before .before .before .before .before .before .before .before .before .before .before .pre .1 .1 .0 .0, search needs), (q .0, omega (arith, q .1, Cycle.arm-in (c .before .before .before .before .before .before .before .before .before .before .before .before .before .args .t .now) (c .before .before .before .before .before .before .before .before .before .before .before .before .before .args .x) _ (c .before .before .before .before .before .before .before .before .before .before .before .before .before .args .end) (c .before .before .before .before .before .before .before .before .before .before .before .before .before .pre .1 .0 .placed .of .count) (c .before .before .before .before .before .before .before .before .before .before .before .before .before .pre .1 .0 .placed .of .first) (c .before .before .before .before .before .before .before .before .before .before .before .before .before .pre .1 .0 .placed .nested) ((c .before .before .before .before .before .before .before .before .before .before .before .before .before .pre .1 .0) .arm)), c .before .before .before .before .before .before .before .before .before .before .before .before .before .pre .1 .0 .height-low, (c .before .before .before .before .before .before .before .before .before .before .before .before .before .pre .1 .1 .1 .1)))))
+loop-at-passes-at-requires t c κs =
+    let q = Cycle.loop-in (c .before .before .before .before .before .before .before .before .before .before .before .before .before .args .t .now) (c .before .before .before .before .before .before .before .before .before .before .before .before .before .args .heights .now) (c .before .before .before .before .before .before .before .before .before .before .before .before .before .args .blinds .now) (c .before .before .before .before .before .before .before .before .before .before .before .before .before .args .x) (c .before .before .before .before .before .before .before .before .before .before .before .before .before .args .target) (c .before .before .before .before .before .before .before .before .before .before .before .before .before .args .ip) (c .before .before .before .before .before .before .before .before .before .before .before .before .before .args .end) (c .before .before .before .before .before .before .before .before .before .before .before .before .before .args .floor) _ _ (c .before .before .before .before .before .before .before .before .before .before .before .before .before .pre .1 .0) (c .before .before .before .before .before .before .before .before .before .before .before .before .before .pre .1 .1 .1 .0) (c .before .before .before .before .before .before .before .before .before .before .before .before .before .pre .1 .1 .1 .1) in (omega (arith, c .before .before .before .before .before .before .before .before .before .before .before .before .before .pre .0, q .0, q .1),
+    (Cycle.placed-by (c .before .before .before .before .before .before .before .before .before .before .before .before .before .args .t .now) (c .before .before .before .before .before .before .before .before .before .before .before .before .before .args .heights .now) (c .before .before .before .before .before .before .before .before .before .before .before .before .before .args .blinds .now) _ (c .before .before .before .before .before .before .before .before .before .before .before .before .before .args .blinds .now) (c .before .before .before .before .before .before .before .before .before .before .before .before .before .args .x) (c .before .before .before .before .before .before .before .before .mark-height .kept .0) refl (c .before .before .before .before .before .before .before .before .before .before .before .before .before .pre .1 .0 .placed), ((c .before .before .before .before .before .before .before .before .before .before .before .before .before .pre .1 .1 .0 .0, search needs), (q .0, omega (arith, q .1,
+    Cycle.arm-in (c .before .before .before .before .before .before .before .before .before .before .before .before .before .args .t .now) (c .before .before .before .before .before .before .before .before .before .before .before .before .before .args .x) _ (c .before .before .before .before .before .before .before .before .before .before .before .before .before .args .end) (c .before .before .before .before .before .before .before .before .before .before .before .before .before .pre .1 .0 .placed .of .count) (c .before .before .before .before .before .before .before .before .before .before .before .before .before .pre .1 .0 .placed .of .first) (c .before .before .before .before .before .before .before .before .before .before .before .before .before .pre .1 .0 .placed .nested) ((c .before .before .before .before .before .before .before .before .before .before .before .before .before .pre .1 .0) .arm)), c .before .before .before .before .before .before .before .before .before .before .before .before .before .pre .1 .0 .height-low, (c .before .before .before .before .before .before .before .before .before .before .before .before .before .pre .1 .1 .1 .1)))))
 
--- src/lib.rt:468:5
+-- src/lib.rt:469:5
 loop-at-onward-after-requires : (t : ℕ) → loop-at-lts.Need-onward-after-requires (
   mark-height-reads.Asked,
   mark-height-reads.Learnt,
@@ -1178,7 +1192,7 @@ loop-at-onward-after-requires : (t : ℕ) → loop-at-lts.Need-onward-after-requ
 ) (loop-at-at t) loop-at.Post
 loop-at-onward-after-requires t c κs = search needs
 
--- src/lib.rt:430:1
+-- src/lib.rt:431:1
 loop-at-same-length : (t : ℕ) → loop-at-lts.Need-same-length (
   mark-height-reads.Asked,
   mark-height-reads.Learnt,
@@ -1189,7 +1203,7 @@ loop-at-same-length : (t : ℕ) → loop-at-lts.Need-same-length (
 ) (loop-at-at t) loop-at.Post
 loop-at-same-length t c = search needs
 
--- src/lib.rt:430:1
+-- src/lib.rt:431:1
 loop-at-same-length-2 : (t : ℕ) → loop-at-lts.Need-same-length-2 (
   mark-height-reads.Asked,
   mark-height-reads.Learnt,
@@ -1200,7 +1214,7 @@ loop-at-same-length-2 : (t : ℕ) → loop-at-lts.Need-same-length-2 (
 ) (loop-at-at t) loop-at.Post
 loop-at-same-length-2 t c = search needs
 
--- src/lib.rt:430:1
+-- src/lib.rt:431:1
 loop-at-returns : (t : ℕ) → loop-at-lts.Need-returns (
   mark-height-reads.Asked,
   mark-height-reads.Learnt,
@@ -1209,9 +1223,15 @@ loop-at-returns : (t : ℕ) → loop-at-lts.Need-returns (
   onward-after-reads.Asked,
   onward-after-reads.Learnt,
 ) (loop-at-at t) loop-at.Post
-loop-at-returns t c = (c .before .before .before .before .before .passes-at .ensures .0, c .before .before .before .before .before .before .before .before .before .before .before .before .before .before .before .before .before .before .before .pre .1 .1 .0 .1, c .onward-after .ensures .3 (Visits.chunkIn (c .before .before .before .before .before .before .before .before .before .before .before .before .before .before .before .before .before .before .before .args .t .now) (c .before .before .before .before .before .before .before .before .before .before .before .before .before .before .before .before .before .before .before .args .x)) (c .before .before .before .before .before .before .before .before .before .before .before .before .before .before .before .before .before .before .before .args .x .locals) (c .before .before .before .before .before .before .before .before .before .before .before .before .before .before .before .before .before .before .before .args .end) (c .before .before .before .before .before .before .before .before .before .before .before .before .before .before .before .before .before .before .before .args .floor) (c .before .before .before .before .before .passes-at .last .1 .1 .1 .0) (c .before .before .before .before .before .passes-at .last .1 .1 .1 .1 .0) (c .before .before .before .before .before .before .before .before .before .before .before .before .before .before .before .before .before .before .before .args .broken .now) (c .before .before .before .before .before .before .before .before .before .before .before .before .before .before .before .before .before .before .before .args .held .now) _ ∙ Cycle.loop-left (c .before .before .before .before .before .before .before .before .before .before .before .before .before .before .before .before .before .before .before .args .t .now) (c .before .before .before .before .before .before .before .before .before .before .before .before .before .before .before .before .before .before .before .args .x) (c .before .before .before .before .before .before .before .before .before .before .before .before .before .before .before .before .before .before .before .args .target) (c .before .before .before .before .before .before .before .before .before .before .before .before .before .before .before .before .before .before .before .args .ip) (c .before .before .before .before .before .before .before .before .before .before .before .before .before .before .before .before .before .before .before .args .end) (c .before .before .before .before .before .before .before .before .before .before .before .before .before .before .before .before .before .before .before .args .floor) (at (c .before .before .before .before .before .before .before .before .before .before .before .before .before .before .before .before .before .before .before .args .height) (c .before .before .before .before .before .before .before .before .before .before .before .before .before .before .before .before .before .before .before .args .slots .now) (c .before .before .before .before .before .before .before .before .before .before .before .before .before .before .before .before .before .before .before .args .places .now)) (breaksIn (c .before .before .before .before .before .before .before .before .before .before .before .before .before .before .before .before .before .before .before .args .b) (c .before .before .before .before .before .before .before .before .before .before .before .before .before .before .before .before .before .before .before .args .broken .now) (c .before .before .before .before .before .before .before .before .before .before .before .before .before .before .before .before .before .before .before .args .held .now)) (c .before .before .before .before .before .before .before .before .before .before .before .before .before .before .before .before .before .before .before .args .heights .now) (c .before .before .before .before .before .before .before .before .before .before .before .before .before .before .before .before .before .before .before .args .blinds .now) _ (c .before .before .before .before .before .before .before .before .before .before .before .before .before .before .before .before .before .before .before .pre .1 .0 .placed .of .first) (c .before .before .before .before .before .before .before .before .before .before .before .before .before .before .before .before .before .before .before .pre .1 .1 .1 .1) (c .before .before .before .before .before .before .before .before .before .before .before .before .before .before .mark-height .ensures) (leftIn (c .before .before .before .before .before .passes-at .result) (c .before .before .before .before .before .passes-at .last .1 .1 .1 .0) (c .before .before .before .before .before .passes-at .last .1 .1 .1 .1 .0)) _ (c .before .before .before .before .before .passes-at .ensures .2), (let q = Cycle.loop-in (c .before .before .before .before .before .before .before .before .before .before .before .before .before .before .before .before .before .before .before .args .t .now) (c .before .before .before .before .before .before .before .before .before .before .before .before .before .before .before .before .before .before .before .args .heights .now) (c .before .before .before .before .before .before .before .before .before .before .before .before .before .before .before .before .before .before .before .args .blinds .now) (c .before .before .before .before .before .before .before .before .before .before .before .before .before .before .before .before .before .before .before .args .x) (c .before .before .before .before .before .before .before .before .before .before .before .before .before .before .before .before .before .before .before .args .target) (c .before .before .before .before .before .before .before .before .before .before .before .before .before .before .before .before .before .before .before .args .ip) (c .before .before .before .before .before .before .before .before .before .before .before .before .before .before .before .before .before .before .before .args .end) (c .before .before .before .before .before .before .before .before .before .before .before .before .before .before .before .before .before .before .before .args .floor) _ _ (c .before .before .before .before .before .before .before .before .before .before .before .before .before .before .before .before .before .before .before .pre .1 .0) (c .before .before .before .before .before .before .before .before .before .before .before .before .before .before .before .before .before .before .before .pre .1 .1 .1 .0) (c .before .before .before .before .before .before .before .before .before .before .before .before .before .before .before .before .before .before .before .pre .1 .1 .1 .1) in (omega (arith, q .0, c .onward-after .ensures .0), omega (arith, q .1, c .onward-after .ensures .0), (omega (arith, c .onward-after .ensures .1, c .before .before .before .before .before .passes-at .ensures .3), omega (arith, c .onward-after .ensures .2, c .before .before .before .before .before .before .before .before .before .before .before .before .before .before .before .before .before .before .before .pre .1 .0 .breaks-low)))))
+loop-at-returns t c =
+    (c .before .before .before .before .before .passes-at .ensures .0, c .before .before .before .before .before .before .before .before .before .before .before .before .before .before .before .before .before .before .before .pre .1 .1 .0 .1, c .onward-after .ensures .3 (Visits.chunkIn (c .before .before .before .before .before .before .before .before .before .before .before .before .before .before .before .before .before .before .before .args .t .now) (c .before .before .before .before .before .before .before .before .before .before .before .before .before .before .before .before .before .before .before .args .x)) (c .before .before .before .before .before .before .before .before .before .before .before .before .before .before .before .before .before .before .before .args .x .locals) (c .before .before .before .before .before .before .before .before .before .before .before .before .before .before .before .before .before .before .before .args .end) (c .before .before .before .before .before .before .before .before .before .before .before .before .before .before .before .before .before .before .before .args .floor) (c .before .before .before .before .before .passes-at .last .1 .1 .1 .0)
+    (c .before .before .before .before .before .passes-at .last .1 .1 .1 .1 .0) (c .before .before .before .before .before .before .before .before .before .before .before .before .before .before .before .before .before .before .before .args .broken .now) (c .before .before .before .before .before .before .before .before .before .before .before .before .before .before .before .before .before .before .before .args .held .now) _ ∙ Cycle.loop-left (c .before .before .before .before .before .before .before .before .before .before .before .before .before .before .before .before .before .before .before .args .t .now) (c .before .before .before .before .before .before .before .before .before .before .before .before .before .before .before .before .before .before .before .args .x) (c .before .before .before .before .before .before .before .before .before .before .before .before .before .before .before .before .before .before .before .args .target) (c .before .before .before .before .before .before .before .before .before .before .before .before .before .before .before .before .before .before .before .args .ip) (c .before .before .before .before .before .before .before .before .before .before .before .before .before .before .before .before .before .before .before .args .end) (c .before .before .before .before .before .before .before .before .before .before .before .before .before .before .before .before .before .before .before .args .floor) (at (c .before .before .before .before .before .before .before .before .before .before .before .before .before .before .before .before .before .before .before .args .height) (c .before .before .before .before .before .before .before .before .before .before .before .before .before .before .before .before .before .before .before .args .slots .now) (c .before .before .before .before .before .before .before .before .before .before .before .before .before .before .before .before .before .before .before .args .places .now)) (breaksIn (c .before .before .before .before .before .before .before .before .before .before .before .before .before .before .before .before .before .before .before .args .b) (c .before .before .before .before .before .before .before .before .before .before .before .before .before .before .before .before .before .before .before .args .broken .now) (c .before .before .before .before .before .before .before .before .before .before .before .before .before .before .before .before .before .before .before .args .held .now)) (c .before .before .before .before .before .before .before .before .before .before .before .before .before .before .before .before .before .before .before .args .heights .now)
+    (c .before .before .before .before .before .before .before .before .before .before .before .before .before .before .before .before .before .before .before .args .blinds .now) _ (c .before .before .before .before .before .before .before .before .before .before .before .before .before .before .before .before .before .before .before .pre .1 .0 .placed .of .first) (c .before .before .before .before .before .before .before .before .before .before .before .before .before .before .before .before .before .before .before .pre .1 .1 .1 .1) (c .before .before .before .before .before .before .before .before .before .before .before .before .before .before .mark-height .ensures) (leftIn (c .before .before .before .before .before .passes-at .result) (c .before .before .before .before .before .passes-at .last .1 .1 .1 .0)
+    (c .before .before .before .before .before .passes-at .last .1 .1 .1 .1 .0)) _ (c .before .before .before .before .before .passes-at .ensures .2), (let q = Cycle.loop-in (c .before .before .before .before .before .before .before .before .before .before .before .before .before .before .before .before .before .before .before .args .t .now) (c .before .before .before .before .before .before .before .before .before .before .before .before .before .before .before .before .before .before .before .args .heights .now) (c .before .before .before .before .before .before .before .before .before .before .before .before .before .before .before .before .before .before .before .args .blinds .now) (c .before .before .before .before .before .before .before .before .before .before .before .before .before .before .before .before .before .before .before .args .x) (c .before .before .before .before .before .before .before .before .before .before .before .before .before .before .before .before .before .before .before .args .target) (c .before .before .before .before .before .before .before .before .before .before .before .before .before .before .before .before .before .before .before .args .ip) (c .before .before .before .before .before .before .before .before .before .before .before .before .before .before .before .before .before .before .before .args .end) (c .before .before .before .before .before .before .before .before .before .before .before .before .before .before .before .before .before .before .before .args .floor) _ _ (c .before .before .before .before .before .before .before .before .before .before .before .before .before .before .before .before .before .before .before .pre .1 .0) (c .before .before .before .before .before .before .before .before .before .before .before .before .before .before .before .before .before .before .before .pre .1 .1 .1 .0)
+    (c .before .before .before .before .before .before .before .before .before .before .before .before .before .before .before .before .before .before .before .pre .1 .1 .1 .1) in (omega (arith, q .0, c .onward-after .ensures .0), omega (arith, q .1, c .onward-after .ensures .0), (omega (arith, c .onward-after .ensures .1,
+    c .before .before .before .before .before .passes-at .ensures .3), omega (arith, c .onward-after .ensures .2, c .before .before .before .before .before .before .before .before .before .before .before .before .before .before .before .before .before .before .before .pre .1 .0 .breaks-low)))))
 
--- src/lib.rt:293:5
+-- src/lib.rt:294:5
 one-arm-copy-requires : (t : ℕ) → one-arm-lts.Need-copy-requires (
   copy-reads.Asked,
   copy-reads.Learnt,
@@ -1222,7 +1242,7 @@ one-arm-copy-requires : (t : ℕ) → one-arm-lts.Need-copy-requires (
 ) (one-arm-at t) one-arm.Post
 one-arm-copy-requires t c κs = (search needs, c .before .before .before .before .before .before .before .pre .1 .1 .0 .0, c .before .before .before .before .before .before .before .pre .1 .0 .height-low, omega (arith, c .before .before .before .before .before .before .before .pre .1 .0 .placed .of .locals, locals-low (c .before .before .before .before .before .before .before .args .t .now) (c .before .before .before .before .before .before .before .args .x .chunk)))
 
--- src/lib.rt:303:9
+-- src/lib.rt:304:9
 one-arm-add-interp-region : (t : ℕ) → one-arm-lts.Need-add-interp-region (
   copy-reads.Asked,
   copy-reads.Learnt,
@@ -1233,7 +1253,7 @@ one-arm-add-interp-region : (t : ℕ) → one-arm-lts.Need-add-interp-region (
 ) (one-arm-at t) one-arm.Post
 one-arm-add-interp-region t c = search needs
 
--- src/lib.rt:294:9
+-- src/lib.rt:295:9
 one-arm-interp-region-requires : (t : ℕ) → one-arm-lts.Need-interp-region-requires (
   copy-reads.Asked,
   copy-reads.Learnt,
@@ -1242,9 +1262,12 @@ one-arm-interp-region-requires : (t : ℕ) → one-arm-lts.Need-interp-region-re
   join-ends-reads.Asked,
   join-ends-reads.Learnt,
 ) (one-arm-at t) one-arm.Post
-one-arm-interp-region-requires t c κs = let q = Cycle.one-arm-in (c .before .before .before .before .before .before .before .before .before .before .before .before .before .before .args .t .now) (c .before .before .before .before .before .before .before .before .before .before .before .before .before .before .args .heights .now) (c .before .before .before .before .before .before .before .before .before .before .before .before .before .before .args .blinds .now) (c .before .before .before .before .before .before .before .before .before .before .before .before .before .before .args .x) (c .before .before .before .before .before .before .before .before .before .before .before .before .before .before .args .target) (c .before .before .before .before .before .before .before .before .before .before .before .before .before .before .args .ip) (c .before .before .before .before .before .before .before .before .before .before .before .before .before .before .args .end) (c .before .before .before .before .before .before .before .before .before .before .before .before .before .before .args .floor) _ _ (c .before .before .before .before .before .before .before .before .before .before .before .before .before .before .pre .1 .0) (c .before .before .before .before .before .before .before .before .before .before .before .before .before .before .pre .1 .1 .1 .0) (c .before .before .before .before .before .before .before .before .before .before .before .before .before .before .pre .1 .1 .1 .1) (c .before .before .before .before .before .before .before .before .before .before .before .before .before .before .pre .1 .1 .1 .2) in (omega (arith, q .0, q .1, c .before .before .before .before .before .before .before .before .before .before .before .before .before .before .pre .0), (record { placed = c .before .before .before .before .before .before .before .before .before .before .before .before .before .before .pre .1 .0 .placed; from = c .before .before .before .before .before .before .before .before .before .before .before .before .before .before .args .ip + 1; arm = q .2; after = omega arith; before = omega (arith, q .0); floor-low = c .before .before .before .before .before .before .before .before .before .before .before .before .before .before .pre .1 .0 .floor-low; height-low = c .before .before .before .before .before .before .before .before .before .before .before .before .before .before .pre .1 .0 .height-low; breaks-low = c .before .before .before .before .before .before .before .before .before .before .before .before .before .before .pre .1 .0 .breaks-low }, c .before .before .before .before .before .before .before .before .before .before .before .before .before .before .pre .1 .1 .0))
+one-arm-interp-region-requires t c κs =
+    let q = Cycle.one-arm-in (c .before .before .before .before .before .before .before .before .before .before .before .before .before .before .args .t .now) (c .before .before .before .before .before .before .before .before .before .before .before .before .before .before .args .heights .now) (c .before .before .before .before .before .before .before .before .before .before .before .before .before .before .args .blinds .now) (c .before .before .before .before .before .before .before .before .before .before .before .before .before .before .args .x) (c .before .before .before .before .before .before .before .before .before .before .before .before .before .before .args .target) (c .before .before .before .before .before .before .before .before .before .before .before .before .before .before .args .ip) (c .before .before .before .before .before .before .before .before .before .before .before .before .before .before .args .end) (c .before .before .before .before .before .before .before .before .before .before .before .before .before .before .args .floor) _ _ (c .before .before .before .before .before .before .before .before .before .before .before .before .before .before .pre .1 .0) (c .before .before .before .before .before .before .before .before .before .before .before .before .before .before .pre .1 .1 .1 .0) (c .before .before .before .before .before .before .before .before .before .before .before .before .before .before .pre .1 .1 .1 .1) (c .before .before .before .before .before .before .before .before .before .before .before .before .before .before .pre .1 .1 .1 .2) in (omega (arith, q .0, q .1,
+    c .before .before .before .before .before .before .before .before .before .before .before .before .before .before .pre .0), (record { placed = c .before .before .before .before .before .before .before .before .before .before .before .before .before .before .pre .1 .0 .placed; from = c .before .before .before .before .before .before .before .before .before .before .before .before .before .before .args .ip + 1; arm = q .2; after = omega arith; before = omega (arith, q .0); floor-low =
+    c .before .before .before .before .before .before .before .before .before .before .before .before .before .before .pre .1 .0 .floor-low; height-low = c .before .before .before .before .before .before .before .before .before .before .before .before .before .before .pre .1 .0 .height-low; breaks-low = c .before .before .before .before .before .before .before .before .before .before .before .before .before .before .pre .1 .0 .breaks-low }, c .before .before .before .before .before .before .before .before .before .before .before .before .before .before .pre .1 .1 .0))
 
--- src/lib.rt:312:19
+-- src/lib.rt:313:19
 one-arm-enum-told : (t : ℕ) → one-arm-lts.Need-enum-told (
   copy-reads.Asked,
   copy-reads.Learnt,
@@ -1255,7 +1278,7 @@ one-arm-enum-told : (t : ℕ) → one-arm-lts.Need-enum-told (
 ) (one-arm-at t) one-arm.Post
 one-arm-enum-told t c = search needs
 
--- src/lib.rt:312:19
+-- src/lib.rt:313:19
 one-arm-add-t37 : (t : ℕ) → one-arm-lts.Need-add-t37 (
   copy-reads.Asked,
   copy-reads.Learnt,
@@ -1264,9 +1287,11 @@ one-arm-add-t37 : (t : ℕ) → one-arm-lts.Need-add-t37 (
   join-ends-reads.Asked,
   join-ends-reads.Learnt,
 ) (one-arm-at t) one-arm.Post
-one-arm-add-t37 t c = let q = Cycle.one-arm-in (c .before .before .before .before .before .before .before .before .before .before .before .before .before .before .before .before .before .before .before .before .before .args .t .now) (c .before .before .before .before .before .before .before .before .before .before .before .before .before .before .before .before .before .before .before .before .before .args .heights .now) (c .before .before .before .before .before .before .before .before .before .before .before .before .before .before .before .before .before .before .before .before .before .args .blinds .now) (c .before .before .before .before .before .before .before .before .before .before .before .before .before .before .before .before .before .before .before .before .before .args .x) (c .before .before .before .before .before .before .before .before .before .before .before .before .before .before .before .before .before .before .before .before .before .args .target) (c .before .before .before .before .before .before .before .before .before .before .before .before .before .before .before .before .before .before .before .before .before .args .ip) (c .before .before .before .before .before .before .before .before .before .before .before .before .before .before .before .before .before .before .before .before .before .args .end) (c .before .before .before .before .before .before .before .before .before .before .before .before .before .before .before .before .before .before .before .before .before .args .floor) _ _ (c .before .before .before .before .before .before .before .before .before .before .before .before .before .before .before .before .before .before .before .before .before .pre .1 .0) (c .before .before .before .before .before .before .before .before .before .before .before .before .before .before .before .before .before .before .before .before .before .pre .1 .1 .1 .0) (c .before .before .before .before .before .before .before .before .before .before .before .before .before .before .before .before .before .before .before .before .before .pre .1 .1 .1 .1) (c .before .before .before .before .before .before .before .before .before .before .before .before .before .before .before .before .before .before .before .before .before .pre .1 .1 .1 .2) in omega (arith, q .1, c .before .before .before .before .before .before .before .before .before .before .before .before .before .before .before .before .before .before .before .before .before .fits)
+one-arm-add-t37 t c =
+    let q = Cycle.one-arm-in (c .before .before .before .before .before .before .before .before .before .before .before .before .before .before .before .before .before .before .before .before .before .args .t .now) (c .before .before .before .before .before .before .before .before .before .before .before .before .before .before .before .before .before .before .before .before .before .args .heights .now) (c .before .before .before .before .before .before .before .before .before .before .before .before .before .before .before .before .before .before .before .before .before .args .blinds .now) (c .before .before .before .before .before .before .before .before .before .before .before .before .before .before .before .before .before .before .before .before .before .args .x) (c .before .before .before .before .before .before .before .before .before .before .before .before .before .before .before .before .before .before .before .before .before .args .target) (c .before .before .before .before .before .before .before .before .before .before .before .before .before .before .before .before .before .before .before .before .before .args .ip) (c .before .before .before .before .before .before .before .before .before .before .before .before .before .before .before .before .before .before .before .before .before .args .end) (c .before .before .before .before .before .before .before .before .before .before .before .before .before .before .before .before .before .before .before .before .before .args .floor) _ _ (c .before .before .before .before .before .before .before .before .before .before .before .before .before .before .before .before .before .before .before .before .before .pre .1 .0) (c .before .before .before .before .before .before .before .before .before .before .before .before .before .before .before .before .before .before .before .before .before .pre .1 .1 .1 .0) (c .before .before .before .before .before .before .before .before .before .before .before .before .before .before .before .before .before .before .before .before .before .pre .1 .1 .1 .1) (c .before .before .before .before .before .before .before .before .before .before .before .before .before .before .before .before .before .before .before .before .before .pre .1 .1 .1 .2) in omega (arith, q .1,
+    c .before .before .before .before .before .before .before .before .before .before .before .before .before .before .before .before .before .before .before .before .before .fits)
 
--- src/lib.rt:311:9
+-- src/lib.rt:312:9
 one-arm-same-length : (t : ℕ) → one-arm-lts.Need-same-length (
   copy-reads.Asked,
   copy-reads.Learnt,
@@ -1277,7 +1302,7 @@ one-arm-same-length : (t : ℕ) → one-arm-lts.Need-same-length (
 ) (one-arm-at t) one-arm.Post
 one-arm-same-length t c = search needs
 
--- src/lib.rt:311:9
+-- src/lib.rt:312:9
 one-arm-same-length-2 : (t : ℕ) → one-arm-lts.Need-same-length-2 (
   copy-reads.Asked,
   copy-reads.Learnt,
@@ -1288,7 +1313,7 @@ one-arm-same-length-2 : (t : ℕ) → one-arm-lts.Need-same-length-2 (
 ) (one-arm-at t) one-arm.Post
 one-arm-same-length-2 t c = search needs
 
--- src/lib.rt:311:9
+-- src/lib.rt:312:9
 one-arm-returns : (t : ℕ) → one-arm-lts.Need-returns (
   copy-reads.Asked,
   copy-reads.Learnt,
@@ -1297,9 +1322,12 @@ one-arm-returns : (t : ℕ) → one-arm-lts.Need-returns (
   join-ends-reads.Asked,
   join-ends-reads.Learnt,
 ) (one-arm-at t) one-arm.Post
-one-arm-returns t c = (c .before .before .before .before .before .before .interp-region .ensures .0, c .before .before .before .before .before .before .interp-region .ensures .1, Cycle.one-refused (c .before .before .before .before .before .before .before .before .before .before .before .before .before .before .before .before .before .before .before .before .before .args .t .now) (c .before .before .before .before .before .before .before .before .before .before .before .before .before .before .before .before .before .before .before .before .before .args .x) (c .before .before .before .before .before .before .before .before .before .before .before .before .before .before .before .before .before .before .before .before .before .args .target) (c .before .before .before .before .before .before .before .before .before .before .before .before .before .before .before .before .before .before .before .before .before .args .ip) (c .before .before .before .before .before .before .before .before .before .before .before .before .before .before .before .before .before .before .before .before .before .args .end) (c .before .before .before .before .before .before .before .before .before .before .before .before .before .before .before .before .before .before .before .before .before .args .floor) (at (c .before .before .before .before .before .before .before .before .before .before .before .before .before .before .before .before .before .before .before .before .before .args .height) (c .before .before .before .before .before .before .before .before .before .before .before .before .before .before .before .before .before .before .before .before .before .args .slots .now) (c .before .before .before .before .before .before .before .before .before .before .before .before .before .before .before .before .before .before .before .before .before .args .places .now)) (breaksIn (c .before .before .before .before .before .before .before .before .before .before .before .before .before .before .before .before .before .before .before .before .before .args .b) (c .before .before .before .before .before .before .before .before .before .before .before .before .before .before .before .before .before .before .before .before .before .args .broken .now) (c .before .before .before .before .before .before .before .before .before .before .before .before .before .before .before .before .before .before .before .before .before .args .held .now)) _ _ (outcomeIn (c .before .before .before .before .before .before .interp-region .result) (c .before .before .before .before .before .before .interp-region .last .1 .1 .1 .0) (c .before .before .before .before .before .before .interp-region .last .1 .1 .1 .1 .0) (c .before .before .before .before .before .before .interp-region .last .1 .1 .1 .1 .1 .0) (c .before .before .before .before .before .before .interp-region .last .1 .1 .1 .1 .1 .1 .0)) (c .before .before .before .before .before .before .before .before .before .before .before .before .before .before .before .before .before .before .before .before .before .pre .1 .1 .1 .2) (c .before .before .before .before .before .before .interp-region .ensures .2) ((c .before .before .before .before .before .before .before .before .before .before .before .before .before .before .before .before .before .before .before .before .before .args .target) + 1) (c .enum-told .given .1), (let q = Cycle.one-arm-in (c .before .before .before .before .before .before .before .before .before .before .before .before .before .before .before .before .before .before .before .before .before .args .t .now) (c .before .before .before .before .before .before .before .before .before .before .before .before .before .before .before .before .before .before .before .before .before .args .heights .now) (c .before .before .before .before .before .before .before .before .before .before .before .before .before .before .before .before .before .before .before .before .before .args .blinds .now) (c .before .before .before .before .before .before .before .before .before .before .before .before .before .before .before .before .before .before .before .before .before .args .x) (c .before .before .before .before .before .before .before .before .before .before .before .before .before .before .before .before .before .before .before .before .before .args .target) (c .before .before .before .before .before .before .before .before .before .before .before .before .before .before .before .before .before .before .before .before .before .args .ip) (c .before .before .before .before .before .before .before .before .before .before .before .before .before .before .before .before .before .before .before .before .before .args .end) (c .before .before .before .before .before .before .before .before .before .before .before .before .before .before .before .before .before .before .before .before .before .args .floor) _ _ (c .before .before .before .before .before .before .before .before .before .before .before .before .before .before .before .before .before .before .before .before .before .pre .1 .0) (c .before .before .before .before .before .before .before .before .before .before .before .before .before .before .before .before .before .before .before .before .before .pre .1 .1 .1 .0) (c .before .before .before .before .before .before .before .before .before .before .before .before .before .before .before .before .before .before .before .before .before .pre .1 .1 .1 .1) (c .before .before .before .before .before .before .before .before .before .before .before .before .before .before .before .before .before .before .before .before .before .pre .1 .1 .1 .2) in (omega (arith, q .0), omega (arith, q .1), c .before .before .before .before .before .before .interp-region .ensures .3)))
+one-arm-returns t c =
+    (c .before .before .before .before .before .before .interp-region .ensures .0, c .before .before .before .before .before .before .interp-region .ensures .1, Cycle.one-refused (c .before .before .before .before .before .before .before .before .before .before .before .before .before .before .before .before .before .before .before .before .before .args .t .now) (c .before .before .before .before .before .before .before .before .before .before .before .before .before .before .before .before .before .before .before .before .before .args .x) (c .before .before .before .before .before .before .before .before .before .before .before .before .before .before .before .before .before .before .before .before .before .args .target) (c .before .before .before .before .before .before .before .before .before .before .before .before .before .before .before .before .before .before .before .before .before .args .ip) (c .before .before .before .before .before .before .before .before .before .before .before .before .before .before .before .before .before .before .before .before .before .args .end) (c .before .before .before .before .before .before .before .before .before .before .before .before .before .before .before .before .before .before .before .before .before .args .floor) (at (c .before .before .before .before .before .before .before .before .before .before .before .before .before .before .before .before .before .before .before .before .before .args .height) (c .before .before .before .before .before .before .before .before .before .before .before .before .before .before .before .before .before .before .before .before .before .args .slots .now) (c .before .before .before .before .before .before .before .before .before .before .before .before .before .before .before .before .before .before .before .before .before .args .places .now)) (breaksIn (c .before .before .before .before .before .before .before .before .before .before .before .before .before .before .before .before .before .before .before .before .before .args .b) (c .before .before .before .before .before .before .before .before .before .before .before .before .before .before .before .before .before .before .before .before .before .args .broken .now) (c .before .before .before .before .before .before .before .before .before .before .before .before .before .before .before .before .before .before .before .before .before .args .held .now)) _ _ (outcomeIn (c .before .before .before .before .before .before .interp-region .result) (c .before .before .before .before .before .before .interp-region .last .1 .1 .1 .0) (c .before .before .before .before .before .before .interp-region .last .1 .1 .1 .1 .0) (c .before .before .before .before .before .before .interp-region .last .1 .1 .1 .1 .1 .0) (c .before .before .before .before .before .before .interp-region .last .1 .1 .1 .1 .1 .1 .0)) (c .before .before .before .before .before .before .before .before .before .before .before .before .before .before .before .before .before .before .before .before .before .pre .1 .1 .1 .2)
+    (c .before .before .before .before .before .before .interp-region .ensures .2) ((c .before .before .before .before .before .before .before .before .before .before .before .before .before .before .before .before .before .before .before .before .before .args .target) + 1) (c .enum-told .given .1), (let q = Cycle.one-arm-in (c .before .before .before .before .before .before .before .before .before .before .before .before .before .before .before .before .before .before .before .before .before .args .t .now) (c .before .before .before .before .before .before .before .before .before .before .before .before .before .before .before .before .before .before .before .before .before .args .heights .now) (c .before .before .before .before .before .before .before .before .before .before .before .before .before .before .before .before .before .before .before .before .before .args .blinds .now) (c .before .before .before .before .before .before .before .before .before .before .before .before .before .before .before .before .before .before .before .before .before .args .x) (c .before .before .before .before .before .before .before .before .before .before .before .before .before .before .before .before .before .before .before .before .before .args .target) (c .before .before .before .before .before .before .before .before .before .before .before .before .before .before .before .before .before .before .before .before .before .args .ip) (c .before .before .before .before .before .before .before .before .before .before .before .before .before .before .before .before .before .before .before .before .before .args .end) (c .before .before .before .before .before .before .before .before .before .before .before .before .before .before .before .before .before .before .before .before .before .args .floor) _ _ (c .before .before .before .before .before .before .before .before .before .before .before .before .before .before .before .before .before .before .before .before .before .pre .1 .0)
+    (c .before .before .before .before .before .before .before .before .before .before .before .before .before .before .before .before .before .before .before .before .before .pre .1 .1 .1 .0) (c .before .before .before .before .before .before .before .before .before .before .before .before .before .before .before .before .before .before .before .before .before .pre .1 .1 .1 .1) (c .before .before .before .before .before .before .before .before .before .before .before .before .before .before .before .before .before .before .before .before .before .pre .1 .1 .1 .2) in (omega (arith, q .0), omega (arith, q .1), c .before .before .before .before .before .before .interp-region .ensures .3)))
 
--- src/lib.rt:318:9
+-- src/lib.rt:319:9
 one-arm-join-ends-requires : (t : ℕ) → one-arm-lts.Need-join-ends-requires (
   copy-reads.Asked,
   copy-reads.Learnt,
@@ -1308,9 +1336,11 @@ one-arm-join-ends-requires : (t : ℕ) → one-arm-lts.Need-join-ends-requires (
   join-ends-reads.Asked,
   join-ends-reads.Learnt,
 ) (one-arm-at t) one-arm.Post
-one-arm-join-ends-requires t c κs = (c .before .before .before .before .before .before .before .before .before .before .interp-region .ensures .0, c .before .before .before .before .before .before .before .before .before .before .before .before .before .before .before .before .before .copy .ensures .0, c .before .before .before .before .before .before .before .before .before .before .interp-region .ensures .3 .0, c .before .before .before .before .before .before .before .before .before .before .before .before .before .before .before .before .before .before .before .before .before .before .before .before .before .pre .1 .0 .height-low, c .before .before .before .before .before .before .before .before .before .before .interp-region .ensures .3 .1, omega (arith, c .before .before .before .before .before .before .before .before .before .before .before .before .before .before .before .before .before .before .before .before .before .before .before .before .before .pre .1 .0 .placed .of .locals, locals-low (c .before .before .before .before .before .before .before .before .before .before .before .before .before .before .before .before .before .before .before .before .before .before .before .before .before .args .t .now) (c .before .before .before .before .before .before .before .before .before .before .before .before .before .before .before .before .before .before .before .before .before .before .before .before .before .args .x .chunk)), (Laws.open-by (c .before .before .before .before .before .before .before .before .before .before .interp-region .result .flow) (c .before .before .before .before .before .match .keys2)), tt)
+one-arm-join-ends-requires t c κs =
+    (c .before .before .before .before .before .before .before .before .before .before .interp-region .ensures .0, c .before .before .before .before .before .before .before .before .before .before .before .before .before .before .before .before .before .copy .ensures .0, c .before .before .before .before .before .before .before .before .before .before .interp-region .ensures .3 .0, c .before .before .before .before .before .before .before .before .before .before .before .before .before .before .before .before .before .before .before .before .before .before .before .before .before .pre .1 .0 .height-low, c .before .before .before .before .before .before .before .before .before .before .interp-region .ensures .3 .1, omega (arith,
+    c .before .before .before .before .before .before .before .before .before .before .before .before .before .before .before .before .before .before .before .before .before .before .before .before .before .pre .1 .0 .placed .of .locals, locals-low (c .before .before .before .before .before .before .before .before .before .before .before .before .before .before .before .before .before .before .before .before .before .before .before .before .before .args .t .now) (c .before .before .before .before .before .before .before .before .before .before .before .before .before .before .before .before .before .before .before .before .before .before .before .before .before .args .x .chunk)), (Laws.open-by (c .before .before .before .before .before .before .before .before .before .before .interp-region .result .flow) (c .before .before .before .before .before .match .keys2)), tt)
 
--- src/lib.rt:332:15
+-- src/lib.rt:333:15
 one-arm-add-t36 : (t : ℕ) → one-arm-lts.Need-add-t36 (
   copy-reads.Asked,
   copy-reads.Learnt,
@@ -1319,9 +1349,11 @@ one-arm-add-t36 : (t : ℕ) → one-arm-lts.Need-add-t36 (
   join-ends-reads.Asked,
   join-ends-reads.Learnt,
 ) (one-arm-at t) one-arm.Post
-one-arm-add-t36 t c = let q = Cycle.one-arm-in (c .before .before .before .before .before .before .before .before .before .before .before .before .before .before .before .before .before .before .before .before .before .before .before .before .before .before .args .t .now) (c .before .before .before .before .before .before .before .before .before .before .before .before .before .before .before .before .before .before .before .before .before .before .before .before .before .before .args .heights .now) (c .before .before .before .before .before .before .before .before .before .before .before .before .before .before .before .before .before .before .before .before .before .before .before .before .before .before .args .blinds .now) (c .before .before .before .before .before .before .before .before .before .before .before .before .before .before .before .before .before .before .before .before .before .before .before .before .before .before .args .x) (c .before .before .before .before .before .before .before .before .before .before .before .before .before .before .before .before .before .before .before .before .before .before .before .before .before .before .args .target) (c .before .before .before .before .before .before .before .before .before .before .before .before .before .before .before .before .before .before .before .before .before .before .before .before .before .before .args .ip) (c .before .before .before .before .before .before .before .before .before .before .before .before .before .before .before .before .before .before .before .before .before .before .before .before .before .before .args .end) (c .before .before .before .before .before .before .before .before .before .before .before .before .before .before .before .before .before .before .before .before .before .before .before .before .before .before .args .floor) _ _ (c .before .before .before .before .before .before .before .before .before .before .before .before .before .before .before .before .before .before .before .before .before .before .before .before .before .before .pre .1 .0) (c .before .before .before .before .before .before .before .before .before .before .before .before .before .before .before .before .before .before .before .before .before .before .before .before .before .before .pre .1 .1 .1 .0) (c .before .before .before .before .before .before .before .before .before .before .before .before .before .before .before .before .before .before .before .before .before .before .before .before .before .before .pre .1 .1 .1 .1) (c .before .before .before .before .before .before .before .before .before .before .before .before .before .before .before .before .before .before .before .before .before .before .before .before .before .before .pre .1 .1 .1 .2) in omega (arith, q .1, c .before .before .before .before .before .before .before .before .before .before .before .before .before .before .before .before .before .before .before .before .before .before .before .before .before .before .fits)
+one-arm-add-t36 t c =
+    let q = Cycle.one-arm-in (c .before .before .before .before .before .before .before .before .before .before .before .before .before .before .before .before .before .before .before .before .before .before .before .before .before .before .args .t .now) (c .before .before .before .before .before .before .before .before .before .before .before .before .before .before .before .before .before .before .before .before .before .before .before .before .before .before .args .heights .now) (c .before .before .before .before .before .before .before .before .before .before .before .before .before .before .before .before .before .before .before .before .before .before .before .before .before .before .args .blinds .now) (c .before .before .before .before .before .before .before .before .before .before .before .before .before .before .before .before .before .before .before .before .before .before .before .before .before .before .args .x) (c .before .before .before .before .before .before .before .before .before .before .before .before .before .before .before .before .before .before .before .before .before .before .before .before .before .before .args .target) (c .before .before .before .before .before .before .before .before .before .before .before .before .before .before .before .before .before .before .before .before .before .before .before .before .before .before .args .ip) (c .before .before .before .before .before .before .before .before .before .before .before .before .before .before .before .before .before .before .before .before .before .before .before .before .before .before .args .end) (c .before .before .before .before .before .before .before .before .before .before .before .before .before .before .before .before .before .before .before .before .before .before .before .before .before .before .args .floor) _ _ (c .before .before .before .before .before .before .before .before .before .before .before .before .before .before .before .before .before .before .before .before .before .before .before .before .before .before .pre .1 .0) (c .before .before .before .before .before .before .before .before .before .before .before .before .before .before .before .before .before .before .before .before .before .before .before .before .before .before .pre .1 .1 .1 .0) (c .before .before .before .before .before .before .before .before .before .before .before .before .before .before .before .before .before .before .before .before .before .before .before .before .before .before .pre .1 .1 .1 .1) (c .before .before .before .before .before .before .before .before .before .before .before .before .before .before .before .before .before .before .before .before .before .before .before .before .before .before .pre .1 .1 .1 .2) in omega (arith, q .1,
+    c .before .before .before .before .before .before .before .before .before .before .before .before .before .before .before .before .before .before .before .before .before .before .before .before .before .before .fits)
 
--- src/lib.rt:269:1
+-- src/lib.rt:270:1
 one-arm-same-length-3 : (t : ℕ) → one-arm-lts.Need-same-length-3 (
   copy-reads.Asked,
   copy-reads.Learnt,
@@ -1332,7 +1364,7 @@ one-arm-same-length-3 : (t : ℕ) → one-arm-lts.Need-same-length-3 (
 ) (one-arm-at t) one-arm.Post
 one-arm-same-length-3 t c = search needs
 
--- src/lib.rt:269:1
+-- src/lib.rt:270:1
 one-arm-same-length-4 : (t : ℕ) → one-arm-lts.Need-same-length-4 (
   copy-reads.Asked,
   copy-reads.Learnt,
@@ -1343,7 +1375,7 @@ one-arm-same-length-4 : (t : ℕ) → one-arm-lts.Need-same-length-4 (
 ) (one-arm-at t) one-arm.Post
 one-arm-same-length-4 t c = search needs
 
--- src/lib.rt:269:1
+-- src/lib.rt:270:1
 one-arm-returns-2 : (t : ℕ) → one-arm-lts.Need-returns-2 (
   copy-reads.Asked,
   copy-reads.Learnt,
@@ -1353,15 +1385,24 @@ one-arm-returns-2 : (t : ℕ) → one-arm-lts.Need-returns-2 (
   join-ends-reads.Learnt,
 ) (one-arm-at t) one-arm.Post
 unfolding Outcomes.fallOf
-one-arm-returns-2 t c = (c .join-ends .ensures .0, c .before .before .before .before .before .before .before .before .before .before .before .interp-region .ensures .1, Cycle.one-joined (c .before .before .before .before .before .before .before .before .before .before .before .before .before .before .before .before .before .before .before .before .before .before .before .before .before .before .args .t .now) (c .before .before .before .before .before .before .before .before .before .before .before .before .before .before .before .before .before .before .before .before .before .before .before .before .before .before .args .x) (c .before .before .before .before .before .before .before .before .before .before .before .before .before .before .before .before .before .before .before .before .before .before .before .before .before .before .args .target) (c .before .before .before .before .before .before .before .before .before .before .before .before .before .before .before .before .before .before .before .before .before .before .before .before .before .before .args .ip) (c .before .before .before .before .before .before .before .before .before .before .before .before .before .before .before .before .before .before .before .before .before .before .before .before .before .before .args .end) (c .before .before .before .before .before .before .before .before .before .before .before .before .before .before .before .before .before .before .before .before .before .before .before .before .before .before .args .floor) (at (c .before .before .before .before .before .before .before .before .before .before .before .before .before .before .before .before .before .before .before .before .before .before .before .before .before .before .args .height) (c .before .before .before .before .before .before .before .before .before .before .before .before .before .before .before .before .before .before .before .before .before .before .before .before .before .before .args .slots .now) (c .before .before .before .before .before .before .before .before .before .before .before .before .before .before .before .before .before .before .before .before .before .before .before .before .before .before .args .places .now)) (breaksIn (c .before .before .before .before .before .before .before .before .before .before .before .before .before .before .before .before .before .before .before .before .before .before .before .before .before .before .args .b) (c .before .before .before .before .before .before .before .before .before .before .before .before .before .before .before .before .before .before .before .before .before .before .before .before .before .before .args .broken .now) (c .before .before .before .before .before .before .before .before .before .before .before .before .before .before .before .before .before .before .before .before .before .before .before .before .before .before .args .held .now)) _ _ (outcomeIn (c .before .before .before .before .before .before .before .before .before .before .before .interp-region .result) (c .before .before .before .before .before .before .before .before .before .before .before .interp-region .last .1 .1 .1 .0) (c .before .before .before .before .before .before .before .before .before .before .before .interp-region .last .1 .1 .1 .1 .0) (c .before .before .before .before .before .before .before .before .before .before .before .interp-region .last .1 .1 .1 .1 .1 .0) (c .before .before .before .before .before .before .before .before .before .before .before .interp-region .last .1 .1 .1 .1 .1 .1 .0)) (c .before .before .before .before .before .before .before .before .before .before .before .before .before .before .before .before .before .before .before .before .before .before .before .before .before .before .pre .1 .1 .1 .2) (c .before .before .before .before .before .before .before .before .before .before .before .interp-region .ensures .2) (Laws.open-by (c .before .before .before .before .before .before .before .before .before .before .before .interp-region .result .flow) (c .before .before .before .before .before .before .match .keys2)) (outcomeIn (c .join-ends .result) (c .join-ends .last .0) (c .join-ends .last .1 .0) (c .before .before .before .before .before .before .before .before .before .before .before .interp-region .last .1 .1 .1 .1 .1 .0) (c .before .before .before .before .before .before .before .before .before .before .before .interp-region .last .1 .1 .1 .1 .1 .1 .0)) (c .join-ends .ensures .1 (c .before .before .before .before .before .before .before .before .before .before .before .interp-region .last .1 .1 .1 .1 .1 .0) (c .before .before .before .before .before .before .before .before .before .before .before .interp-region .last .1 .1 .1 .1 .1 .1 .0) _ ∙ ap (λ (z : AnyState). Outcomes.meets (c .before .before .before .before .before .before .before .before .before .before .before .before .before .before .before .before .before .before .before .before .before .before .before .before .before .before .args .ip) (Outcomes.fallOf (c .before .before .before .before .before .before .before .before .before .before .before .before .before .before .before .before .before .before .before .before .before .before .before .before .before .before .args .x .locals) (at (c .before .before .before .before .before .before .before .before .before .before .before .interp-region .result .height) (c .before .before .before .before .before .before .before .before .before .before .before .interp-region .last .1 .1 .1 .0) (c .before .before .before .before .before .before .before .before .before .before .before .interp-region .last .1 .1 .1 .1 .0)) (c .before .before .before .before .before .before .before .before .before .before .before .interp-region .result .flow)) (some z) (Outcomes.breaksOf (c .before .before .before .before .before .before .before .before .before .before .before .before .before .before .before .before .before .before .before .before .before .before .before .before .before .before .args .x .locals) (breaksIn (c .before .before .before .before .before .before .before .before .before .before .before .interp-region .result .breaks) (c .before .before .before .before .before .before .before .before .before .before .before .interp-region .last .1 .1 .1 .1 .1 .0) (c .before .before .before .before .before .before .before .before .before .before .before .interp-region .last .1 .1 .1 .1 .1 .1 .0))) (sheetsOf (c .before .before .before .before .before .before .before .before .before .before .before .interp-region .last .1 .0) (c .before .before .before .before .before .before .before .before .before .before .before .interp-region .last .1 .1 .0))) (c .before .before .before .before .before .before .before .before .before .before .before .before .before .before .before .before .before .before .copy .ensures .1)), (let q = Cycle.one-arm-in (c .before .before .before .before .before .before .before .before .before .before .before .before .before .before .before .before .before .before .before .before .before .before .before .before .before .before .args .t .now) (c .before .before .before .before .before .before .before .before .before .before .before .before .before .before .before .before .before .before .before .before .before .before .before .before .before .before .args .heights .now) (c .before .before .before .before .before .before .before .before .before .before .before .before .before .before .before .before .before .before .before .before .before .before .before .before .before .before .args .blinds .now) (c .before .before .before .before .before .before .before .before .before .before .before .before .before .before .before .before .before .before .before .before .before .before .before .before .before .before .args .x) (c .before .before .before .before .before .before .before .before .before .before .before .before .before .before .before .before .before .before .before .before .before .before .before .before .before .before .args .target) (c .before .before .before .before .before .before .before .before .before .before .before .before .before .before .before .before .before .before .before .before .before .before .before .before .before .before .args .ip) (c .before .before .before .before .before .before .before .before .before .before .before .before .before .before .before .before .before .before .before .before .before .before .before .before .before .before .args .end) (c .before .before .before .before .before .before .before .before .before .before .before .before .before .before .before .before .before .before .before .before .before .before .before .before .before .before .args .floor) _ _ (c .before .before .before .before .before .before .before .before .before .before .before .before .before .before .before .before .before .before .before .before .before .before .before .before .before .before .pre .1 .0) (c .before .before .before .before .before .before .before .before .before .before .before .before .before .before .before .before .before .before .before .before .before .before .before .before .before .before .pre .1 .1 .1 .0) (c .before .before .before .before .before .before .before .before .before .before .before .before .before .before .before .before .before .before .before .before .before .before .before .before .before .before .pre .1 .1 .1 .1) (c .before .before .before .before .before .before .before .before .before .before .before .before .before .before .before .before .before .before .before .before .before .before .before .before .before .before .pre .1 .1 .1 .2) in (omega (arith, q .0), omega (arith, q .1), c .join-ends .ensures .2)))
+one-arm-returns-2 t c =
+    (c .join-ends .ensures .0, c .before .before .before .before .before .before .before .before .before .before .before .interp-region .ensures .1, Cycle.one-joined (c .before .before .before .before .before .before .before .before .before .before .before .before .before .before .before .before .before .before .before .before .before .before .before .before .before .before .args .t .now) (c .before .before .before .before .before .before .before .before .before .before .before .before .before .before .before .before .before .before .before .before .before .before .before .before .before .before .args .x) (c .before .before .before .before .before .before .before .before .before .before .before .before .before .before .before .before .before .before .before .before .before .before .before .before .before .before .args .target) (c .before .before .before .before .before .before .before .before .before .before .before .before .before .before .before .before .before .before .before .before .before .before .before .before .before .before .args .ip) (c .before .before .before .before .before .before .before .before .before .before .before .before .before .before .before .before .before .before .before .before .before .before .before .before .before .before .args .end) (c .before .before .before .before .before .before .before .before .before .before .before .before .before .before .before .before .before .before .before .before .before .before .before .before .before .before .args .floor) (at (c .before .before .before .before .before .before .before .before .before .before .before .before .before .before .before .before .before .before .before .before .before .before .before .before .before .before .args .height) (c .before .before .before .before .before .before .before .before .before .before .before .before .before .before .before .before .before .before .before .before .before .before .before .before .before .before .args .slots .now) (c .before .before .before .before .before .before .before .before .before .before .before .before .before .before .before .before .before .before .before .before .before .before .before .before .before .before .args .places .now)) (breaksIn (c .before .before .before .before .before .before .before .before .before .before .before .before .before .before .before .before .before .before .before .before .before .before .before .before .before .before .args .b) (c .before .before .before .before .before .before .before .before .before .before .before .before .before .before .before .before .before .before .before .before .before .before .before .before .before .before .args .broken .now) (c .before .before .before .before .before .before .before .before .before .before .before .before .before .before .before .before .before .before .before .before .before .before .before .before .before .before .args .held .now)) _ _ (outcomeIn (c .before .before .before .before .before .before .before .before .before .before .before .interp-region .result) (c .before .before .before .before .before .before .before .before .before .before .before .interp-region .last .1 .1 .1 .0) (c .before .before .before .before .before .before .before .before .before .before .before .interp-region .last .1 .1 .1 .1 .0) (c .before .before .before .before .before .before .before .before .before .before .before .interp-region .last .1 .1 .1 .1 .1 .0) (c .before .before .before .before .before .before .before .before .before .before .before .interp-region .last .1 .1 .1 .1 .1 .1 .0)) (c .before .before .before .before .before .before .before .before .before .before .before .before .before .before .before .before .before .before .before .before .before .before .before .before .before .before .pre .1 .1 .1 .2)
+    (c .before .before .before .before .before .before .before .before .before .before .before .interp-region .ensures .2) (Laws.open-by (c .before .before .before .before .before .before .before .before .before .before .before .interp-region .result .flow) (c .before .before .before .before .before .before .match .keys2)) (outcomeIn (c .join-ends .result) (c .join-ends .last .0)
+    (c .join-ends .last .1 .0) (c .before .before .before .before .before .before .before .before .before .before .before .interp-region .last .1 .1 .1 .1 .1 .0) (c .before .before .before .before .before .before .before .before .before .before .before .interp-region .last .1 .1 .1 .1 .1 .1 .0)) (c .join-ends .ensures .1 (c .before .before .before .before .before .before .before .before .before .before .before .interp-region .last .1 .1 .1 .1 .1 .0) (c .before .before .before .before .before .before .before .before .before .before .before .interp-region .last .1 .1 .1 .1 .1 .1 .0) _ ∙ ap (λ (z : AnyState). Outcomes.meets (c .before .before .before .before .before .before .before .before .before .before .before .before .before .before .before .before .before .before .before .before .before .before .before .before .before .before .args .ip)
+    (Outcomes.fallOf (c .before .before .before .before .before .before .before .before .before .before .before .before .before .before .before .before .before .before .before .before .before .before .before .before .before .before .args .x .locals) (at (c .before .before .before .before .before .before .before .before .before .before .before .interp-region .result .height) (c .before .before .before .before .before .before .before .before .before .before .before .interp-region .last .1 .1 .1 .0) (c .before .before .before .before .before .before .before .before .before .before .before .interp-region .last .1 .1 .1 .1 .0)) (c .before .before .before .before .before .before .before .before .before .before .before .interp-region .result .flow)) (some z)
+    (Outcomes.breaksOf (c .before .before .before .before .before .before .before .before .before .before .before .before .before .before .before .before .before .before .before .before .before .before .before .before .before .before .args .x .locals) (breaksIn (c .before .before .before .before .before .before .before .before .before .before .before .interp-region .result .breaks) (c .before .before .before .before .before .before .before .before .before .before .before .interp-region .last .1 .1 .1 .1 .1 .0) (c .before .before .before .before .before .before .before .before .before .before .before .interp-region .last .1 .1 .1 .1 .1 .1 .0))) (sheetsOf (c .before .before .before .before .before .before .before .before .before .before .before .interp-region .last .1 .0)
+    (c .before .before .before .before .before .before .before .before .before .before .before .interp-region .last .1 .1 .0))) (c .before .before .before .before .before .before .before .before .before .before .before .before .before .before .before .before .before .before .copy .ensures .1)), (let q = Cycle.one-arm-in (c .before .before .before .before .before .before .before .before .before .before .before .before .before .before .before .before .before .before .before .before .before .before .before .before .before .before .args .t .now) (c .before .before .before .before .before .before .before .before .before .before .before .before .before .before .before .before .before .before .before .before .before .before .before .before .before .before .args .heights .now) (c .before .before .before .before .before .before .before .before .before .before .before .before .before .before .before .before .before .before .before .before .before .before .before .before .before .before .args .blinds .now) (c .before .before .before .before .before .before .before .before .before .before .before .before .before .before .before .before .before .before .before .before .before .before .before .before .before .before .args .x) (c .before .before .before .before .before .before .before .before .before .before .before .before .before .before .before .before .before .before .before .before .before .before .before .before .before .before .args .target) (c .before .before .before .before .before .before .before .before .before .before .before .before .before .before .before .before .before .before .before .before .before .before .before .before .before .before .args .ip) (c .before .before .before .before .before .before .before .before .before .before .before .before .before .before .before .before .before .before .before .before .before .before .before .before .before .before .args .end) (c .before .before .before .before .before .before .before .before .before .before .before .before .before .before .before .before .before .before .before .before .before .before .before .before .before .before .args .floor) _ _ (c .before .before .before .before .before .before .before .before .before .before .before .before .before .before .before .before .before .before .before .before .before .before .before .before .before .before .pre .1 .0) (c .before .before .before .before .before .before .before .before .before .before .before .before .before .before .before .before .before .before .before .before .before .before .before .before .before .before .pre .1 .1 .1 .0)
+    (c .before .before .before .before .before .before .before .before .before .before .before .before .before .before .before .before .before .before .before .before .before .before .before .before .before .before .pre .1 .1 .1 .1) (c .before .before .before .before .before .before .before .before .before .before .before .before .before .before .before .before .before .before .before .before .before .before .before .before .before .before .pre .1 .1 .1 .2) in (omega (arith, q .0), omega (arith, q .1), c .join-ends .ensures .2)))
 
 abbrev passes-at-Inv-passes : passes-at-lts.InvT-passes
-passes-at-Inv-passes t heights₀ blinds₀ slots₀ places₀ broken₀ held₀ x ip exit height locals head₀ texts₀ body last left₀ heights blinds slots places broken held head texts left = Long slots places × Long broken held × Long head texts × (stateOf (x .locals) (at height slots places) ≡ stateOf (x .locals) (at height head texts)) × Cycle.Passing t x ip exit (at height slots₀ places₀) heights₀ blinds₀ heights blinds (at height head texts) left
+passes-at-Inv-passes t heights₀ blinds₀ slots₀ places₀ broken₀ held₀ x ip exit height locals head₀ texts₀ body last left₀ heights blinds slots places broken held head texts left =
+    Long slots places × Long broken held × Long head texts × (stateOf (x .locals) (at height slots places) ≡ stateOf (x .locals) (at height head texts)) ×
+    Cycle.Passing t x ip exit (at height slots₀ places₀) heights₀ blinds₀ heights blinds (at height head texts) left
 
 abbrev passes-at-μ-passes : passes-at-lts.MeasureT-passes
 passes-at-μ-passes t heights₀ blinds₀ slots₀ places₀ broken₀ held₀ x ip exit height locals head₀ texts₀ body last left₀ heights blinds slots places broken held head texts left = left
 
--- src/lib.rt:493:5
+-- src/lib.rt:494:5
 passes-at-copy-requires : (t : ℕ) → passes-at-lts.Need-copy-requires (
   copy-reads.Asked,
   copy-reads.Learnt,
@@ -1384,7 +1425,7 @@ passes-at-copy-requires : (t : ℕ) → passes-at-lts.Need-copy-requires (
 ) (passes-at-at t) passes-at.Post passes-at-Inv-passes passes-at-μ-passes
 passes-at-copy-requires t c κs = (search needs, c .before .before .before .before .before .before .before .pre .1 .1 .0 .0, c .before .before .before .before .before .before .before .pre .1 .1 .1 .2, omega (arith, c .before .before .before .before .before .before .before .pre .1 .0 .of .locals, locals-low (c .before .before .before .before .before .before .before .args .t .now) (c .before .before .before .before .before .before .before .args .x .chunk)))
 
--- src/lib.rt:494:16
+-- src/lib.rt:495:16
 passes-at-add-body : (t : ℕ) → passes-at-lts.Need-add-body (
   copy-reads.Asked,
   copy-reads.Learnt,
@@ -1407,7 +1448,7 @@ passes-at-add-body : (t : ℕ) → passes-at-lts.Need-add-body (
 ) (passes-at-at t) passes-at.Post passes-at-Inv-passes passes-at-μ-passes
 passes-at-add-body t c = omega (arith, c .before .before .before .before .before .before .before .before .pre .1 .1 .1 .0, c .before .before .before .before .before .before .before .before .pre .1 .1 .1 .1, c .before .before .before .before .before .before .before .before .fits)
 
--- src/lib.rt:495:16
+-- src/lib.rt:496:16
 passes-at-sub-last : (t : ℕ) → passes-at-lts.Need-sub-last (
   copy-reads.Asked,
   copy-reads.Learnt,
@@ -1430,7 +1471,7 @@ passes-at-sub-last : (t : ℕ) → passes-at-lts.Need-sub-last (
 ) (passes-at-at t) passes-at.Post passes-at-Inv-passes passes-at-μ-passes
 passes-at-sub-last t c = omega (arith, c .before .before .before .before .before .before .before .before .pre .1 .1 .1 .0)
 
--- src/lib.rt:496:20
+-- src/lib.rt:497:20
 passes-at-add-left : (t : ℕ) → passes-at-lts.Need-add-left (
   copy-reads.Asked,
   copy-reads.Learnt,
@@ -1453,7 +1494,7 @@ passes-at-add-left : (t : ℕ) → passes-at-lts.Need-add-left (
 ) (passes-at-at t) passes-at.Post passes-at-Inv-passes passes-at-μ-passes
 passes-at-add-left t c = omega (arith, c .before .before .before .before .before .before .before .before .pre .1 .0 .of .locals, locals-low (c .before .before .before .before .before .before .before .before .args .t .now) (c .before .before .before .before .before .before .before .before .args .x .chunk))
 
--- src/lib.rt:497:9
+-- src/lib.rt:498:9
 passes-at-passes-holds : (t : ℕ) → passes-at-lts.Need-passes-holds (
   copy-reads.Asked,
   copy-reads.Learnt,
@@ -1474,9 +1515,11 @@ passes-at-passes-holds : (t : ℕ) → passes-at-lts.Need-passes-holds (
   join-locals-reads.Asked,
   join-locals-reads.Learnt,
 ) (passes-at-at t) passes-at.Post passes-at-Inv-passes passes-at-μ-passes
-passes-at-passes-holds t c = (c .before .before .before .before .before .before .before .before .pre .1 .1 .0 .0, c .before .before .before .before .before .before .before .before .pre .1 .1 .0 .1, c .copy .ensures .0, sym (c .copy .ensures .1), Cycle.passing-start (c .before .before .before .before .before .before .before .before .args .t .now) (c .before .before .before .before .before .before .before .before .args .x) (c .before .before .before .before .before .before .before .before .args .ip) (c .before .before .before .before .before .before .before .before .args .exit) (at (c .before .before .before .before .before .before .before .before .args .height) (c .before .before .before .before .before .before .before .before .args .slots .now) (c .before .before .before .before .before .before .before .before .args .places .now)) (at (c .before .before .before .before .before .before .before .before .args .height) (c .copy .last .0) (c .copy .last .1 .0)) refl (c .copy .ensures .1) (c .before .before .before .before .before .before .before .before .args .heights .now) (c .before .before .before .before .before .before .before .before .args .blinds .now) (c .before .before .before .before .before .before .before .before .pre .1 .0 .of .locals) (omega (arith, c .before .before .before .before .before .before .before .before .pre .1 .0 .of .locals, locals-low (c .before .before .before .before .before .before .before .before .args .t .now) (c .before .before .before .before .before .before .before .before .args .x .chunk))))
+passes-at-passes-holds t c =
+    (c .before .before .before .before .before .before .before .before .pre .1 .1 .0 .0, c .before .before .before .before .before .before .before .before .pre .1 .1 .0 .1, c .copy .ensures .0, sym (c .copy .ensures .1), Cycle.passing-start (c .before .before .before .before .before .before .before .before .args .t .now) (c .before .before .before .before .before .before .before .before .args .x) (c .before .before .before .before .before .before .before .before .args .ip) (c .before .before .before .before .before .before .before .before .args .exit) (at (c .before .before .before .before .before .before .before .before .args .height) (c .before .before .before .before .before .before .before .before .args .slots .now) (c .before .before .before .before .before .before .before .before .args .places .now)) (at (c .before .before .before .before .before .before .before .before .args .height) (c .copy .last .0)
+    (c .copy .last .1 .0)) refl (c .copy .ensures .1) (c .before .before .before .before .before .before .before .before .args .heights .now) (c .before .before .before .before .before .before .before .before .args .blinds .now) (c .before .before .before .before .before .before .before .before .pre .1 .0 .of .locals) (omega (arith, c .before .before .before .before .before .before .before .before .pre .1 .0 .of .locals, locals-low (c .before .before .before .before .before .before .before .before .args .t .now) (c .before .before .before .before .before .before .before .before .args .x .chunk))))
 
--- src/lib.rt:502:13
+-- src/lib.rt:503:13
 passes-at-interp-region-requires : (t : ℕ) → passes-at-lts.Need-interp-region-requires (
   copy-reads.Asked,
   copy-reads.Learnt,
@@ -1497,7 +1540,12 @@ passes-at-interp-region-requires : (t : ℕ) → passes-at-lts.Need-interp-regio
   join-locals-reads.Asked,
   join-locals-reads.Learnt,
 ) (passes-at-at t) passes-at.Post passes-at-Inv-passes passes-at-μ-passes
-passes-at-interp-region-requires t c κs = (omega (arith, c .before .before .before .before .before .before .before .before .before .before .before .before .before .before .before .pre .0, c .before .before .before .before .before .before .before .before .before .before .before .before .before .before .before .pre .1 .1 .1 .0), (record { placed = Cycle.placed-by (c .before .before .before .before .before .before .before .before .before .before .before .before .before .before .before .args .t .now) (c .before .before .before .before .before .before .before .before .before .before .before .before .before .before .before .args .heights .now) (c .before .before .before .before .before .before .before .before .before .before .before .before .before .before .before .args .blinds .now) (c .before .before .before .before .before .before .passes .heights) (c .before .before .before .before .before .before .passes .blinds) (c .before .before .before .before .before .before .before .before .before .before .before .before .before .before .before .args .x) ((c .before .before .before .before .before .before .passes .inv .4) .heights-same) ((c .before .before .before .before .before .before .passes .inv .4) .blinds-same) (c .before .before .before .before .before .before .before .before .before .before .before .before .before .before .before .pre .1 .0); from = c .before .before .before .before .before .before .before .before .before .before .before .before .before .before .before .args .ip + 1; arm = Cycle.loop-arm-in (c .before .before .before .before .before .before .before .before .before .before .before .before .before .before .before .args .t .now) (c .before .before .before .before .before .before .before .before .before .before .before .before .before .before .before .args .x) (c .before .before .before .before .before .before .before .before .before .before .before .before .before .before .before .args .ip) (c .before .before .before .before .before .before .before .before .before .before .before .before .before .before .before .args .exit) (c .before .before .before .before .before .before .before .before .before .before .before .before .before .before .before .pre .1 .0 .of .first) (c .before .before .before .before .before .before .before .before .before .before .before .before .before .before .before .pre .1 .0 .of .count) (omega (arith, c .before .before .before .before .before .before .before .before .before .before .before .before .before .before .before .pre .1 .1 .1 .0, c .before .before .before .before .before .before .before .before .before .before .before .before .before .before .before .pre .1 .1 .1 .1)) (c .before .before .before .before .before .before .before .before .before .before .before .before .before .before .before .pre .1 .1 .1 .3); after = omega arith; before = omega (arith, c .before .before .before .before .before .before .before .before .before .before .before .before .before .before .before .pre .1 .1 .1 .0); floor-low = c .before .before .before .before .before .before .before .before .before .before .before .before .before .before .before .pre .1 .1 .1 .2; height-low = c .before .before .before .before .before .before .before .before .before .before .before .before .before .before .before .pre .1 .1 .1 .2; breaks-low = omega arith }, (c .before .before .before .before .before .before .passes .inv .0, c .before .before .before .before .before .before .passes .inv .1)))
+passes-at-interp-region-requires t c κs =
+    (omega (arith, c .before .before .before .before .before .before .before .before .before .before .before .before .before .before .before .pre .0, c .before .before .before .before .before .before .before .before .before .before .before .before .before .before .before .pre .1 .1 .1 .0), (record { placed = Cycle.placed-by (c .before .before .before .before .before .before .before .before .before .before .before .before .before .before .before .args .t .now) (c .before .before .before .before .before .before .before .before .before .before .before .before .before .before .before .args .heights .now) (c .before .before .before .before .before .before .before .before .before .before .before .before .before .before .before .args .blinds .now) (c .before .before .before .before .before .before .passes .heights) (c .before .before .before .before .before .before .passes .blinds) (c .before .before .before .before .before .before .before .before .before .before .before .before .before .before .before .args .x)
+    ((c .before .before .before .before .before .before .passes .inv .4) .heights-same) ((c .before .before .before .before .before .before .passes .inv .4) .blinds-same) (c .before .before .before .before .before .before .before .before .before .before .before .before .before .before .before .pre .1 .0); from = c .before .before .before .before .before .before .before .before .before .before .before .before .before .before .before .args .ip + 1; arm = Cycle.loop-arm-in (c .before .before .before .before .before .before .before .before .before .before .before .before .before .before .before .args .t .now) (c .before .before .before .before .before .before .before .before .before .before .before .before .before .before .before .args .x) (c .before .before .before .before .before .before .before .before .before .before .before .before .before .before .before .args .ip) (c .before .before .before .before .before .before .before .before .before .before .before .before .before .before .before .args .exit)
+    (c .before .before .before .before .before .before .before .before .before .before .before .before .before .before .before .pre .1 .0 .of .first) (c .before .before .before .before .before .before .before .before .before .before .before .before .before .before .before .pre .1 .0 .of .count) (omega (arith, c .before .before .before .before .before .before .before .before .before .before .before .before .before .before .before .pre .1 .1 .1 .0, c .before .before .before .before .before .before .before .before .before .before .before .before .before .before .before .pre .1 .1 .1 .1)) (c .before .before .before .before .before .before .before .before .before .before .before .before .before .before .before .pre .1 .1 .1 .3); after = omega arith; before = omega
+    (arith, c .before .before .before .before .before .before .before .before .before .before .before .before .before .before .before .pre .1 .1 .1 .0); floor-low = c .before .before .before .before .before .before .before .before .before .before .before .before .before .before .before .pre .1 .1 .1 .2; height-low = c .before .before .before .before .before .before .before .before .before .before .before .before .before .before .before .pre .1 .1 .1 .2; breaks-low = omega arith }, (c .before .before .before .before .before .before .passes .inv .0,
+    c .before .before .before .before .before .before .passes .inv .1)))
 
 passes-at-enum-told : (t : ℕ) → passes-at-lts.Need-enum-told (
   copy-reads.Asked,
@@ -1521,7 +1569,7 @@ passes-at-enum-told : (t : ℕ) → passes-at-lts.Need-enum-told (
 ) (passes-at-at t) passes-at.Post passes-at-Inv-passes passes-at-μ-passes
 passes-at-enum-told t c = search needs
 
--- src/lib.rt:524:21
+-- src/lib.rt:525:21
 passes-at-enum-told-2 : (t : ℕ) → passes-at-lts.Need-enum-told-2 (
   copy-reads.Asked,
   copy-reads.Learnt,
@@ -1544,7 +1592,7 @@ passes-at-enum-told-2 : (t : ℕ) → passes-at-lts.Need-enum-told-2 (
 ) (passes-at-at t) passes-at.Post passes-at-Inv-passes passes-at-μ-passes
 passes-at-enum-told-2 t c = search needs
 
--- src/lib.rt:523:31
+-- src/lib.rt:524:31
 passes-at-leave-head-requires : (t : ℕ) → passes-at-lts.Need-leave-head-requires (
   copy-reads.Asked,
   copy-reads.Learnt,
@@ -1567,7 +1615,7 @@ passes-at-leave-head-requires : (t : ℕ) → passes-at-lts.Need-leave-head-requ
 ) (passes-at-at t) passes-at.Post passes-at-Inv-passes passes-at-μ-passes
 passes-at-leave-head-requires t c κs = (c .before .before .before .before .before .before .before .before .before .before .before .before .before .interp-region .ensures .0, c .before .before .before .before .before .before .before .before .before .before .before .before .before .before .before .before .before .before .before .before .passes .inv .2, c .before .before .before .before .before .before .before .before .before .before .before .before .before .interp-region .ensures .1, c .before .before .before .before .before .before .before .before .before .before .before .before .before .before .before .before .before .before .before .before .before .before .before .before .before .before .before .before .before .pre .1 .1 .1 .2, c .before .before .before .before .before .before .before .before .before .before .before .before .before .interp-region .ensures .3 .1, omega (arith, c .before .before .before .before .before .before .before .before .before .before .before .before .before .before .before .before .before .before .before .before .before .before .before .before .before .before .before .before .before .pre .1 .0 .of .locals, locals-low (c .before .before .before .before .before .before .before .before .before .before .before .before .before .before .before .before .before .before .before .before .before .before .before .before .before .before .before .before .before .args .t .now) (c .before .before .before .before .before .before .before .before .before .before .before .before .before .before .before .before .before .before .before .before .before .before .before .before .before .before .before .before .before .args .x .chunk)))
 
--- src/lib.rt:536:27
+-- src/lib.rt:537:27
 passes-at-enum-known-f : (t : ℕ) → passes-at-lts.Need-enum-known-f (
   copy-reads.Asked,
   copy-reads.Learnt,
@@ -1590,7 +1638,7 @@ passes-at-enum-known-f : (t : ℕ) → passes-at-lts.Need-enum-known-f (
 ) (passes-at-at t) passes-at.Post passes-at-Inv-passes passes-at-μ-passes
 passes-at-enum-known-f t c = search needs
 
--- src/lib.rt:537:17
+-- src/lib.rt:538:17
 passes-at-same-length : (t : ℕ) → passes-at-lts.Need-same-length (
   copy-reads.Asked,
   copy-reads.Learnt,
@@ -1613,7 +1661,7 @@ passes-at-same-length : (t : ℕ) → passes-at-lts.Need-same-length (
 ) (passes-at-at t) passes-at.Post passes-at-Inv-passes passes-at-μ-passes
 passes-at-same-length t c = search needs
 
--- src/lib.rt:537:17
+-- src/lib.rt:538:17
 passes-at-same-length-2 : (t : ℕ) → passes-at-lts.Need-same-length-2 (
   copy-reads.Asked,
   copy-reads.Learnt,
@@ -1636,7 +1684,7 @@ passes-at-same-length-2 : (t : ℕ) → passes-at-lts.Need-same-length-2 (
 ) (passes-at-at t) passes-at.Post passes-at-Inv-passes passes-at-μ-passes
 passes-at-same-length-2 t c = search needs
 
--- src/lib.rt:537:17
+-- src/lib.rt:538:17
 passes-at-returns : (t : ℕ) → passes-at-lts.Need-returns (
   copy-reads.Asked,
   copy-reads.Learnt,
@@ -1658,9 +1706,13 @@ passes-at-returns : (t : ℕ) → passes-at-lts.Need-returns (
   join-locals-reads.Learnt,
 ) (passes-at-at t) passes-at.Post passes-at-Inv-passes passes-at-μ-passes
 unfolding Outcomes.leavingOf
-passes-at-returns t c = (c .before .before .before .before .before .before .before .before .interp-region .ensures .0, c .before .before .before .before .before .before .before .before .interp-region .ensures .1, Cycle.pass-refused (c .before .before .before .before .before .before .before .before .before .before .before .before .before .before .before .before .before .before .before .before .before .before .before .before .args .t .now) (c .before .before .before .before .before .before .before .before .before .before .before .before .before .before .before .before .before .before .before .before .before .before .before .before .args .x) (c .before .before .before .before .before .before .before .before .before .before .before .before .before .before .before .before .before .before .before .before .before .before .before .before .args .ip) (c .before .before .before .before .before .before .before .before .before .before .before .before .before .before .before .before .before .before .before .before .before .before .before .before .args .exit) (at (c .before .before .before .before .before .before .before .before .before .before .before .before .before .before .before .before .before .before .before .before .before .before .before .before .args .height) (c .before .before .before .before .before .before .before .before .before .before .before .before .before .before .before .before .before .before .before .before .before .before .before .before .args .slots .now) (c .before .before .before .before .before .before .before .before .before .before .before .before .before .before .before .before .before .before .before .before .before .before .before .before .args .places .now)) (c .before .before .before .before .before .before .before .before .before .before .before .before .before .before .before .before .before .before .before .before .before .before .before .before .args .heights .now) (c .before .before .before .before .before .before .before .before .before .before .before .before .before .before .before .before .before .before .before .before .before .before .before .before .args .blinds .now) (c .before .before .before .before .before .before .before .before .before .before .before .before .before .before .before .passes .heights) (c .before .before .before .before .before .before .before .before .before .before .before .before .before .before .before .passes .blinds) (at (c .before .before .before .before .before .before .before .before .before .before .before .before .before .before .before .before .before .before .before .before .before .before .before .before .args .height) (c .before .before .before .before .before .before .before .before .before .before .before .before .before .before .before .passes .head) (c .before .before .before .before .before .before .before .before .before .before .before .before .before .before .before .passes .texts)) (c .before .before .before .before .before .before .before .before .before .before .before .before .before .before .before .passes .left) (c .before .before .before .before .before .before .before .before .before .before .before .before .before .before .before .passes .inv .4) (outcomeIn (c .before .before .before .before .before .before .before .before .interp-region .result) (c .before .before .before .before .before .before .before .before .interp-region .last .1 .1 .1 .0) (c .before .before .before .before .before .before .before .before .interp-region .last .1 .1 .1 .1 .0) (c .before .before .before .before .before .before .before .before .interp-region .last .1 .1 .1 .1 .1 .0) (c .before .before .before .before .before .before .before .before .interp-region .last .1 .1 .1 .1 .1 .1 .0)) _ _ (breaksIn (record { pending = Nothing; height = 0 }) (c .before .before .before .before .before .before .before .before .before .before .before .before .before .before .before .passes .broken) (c .before .before .before .before .before .before .before .before .before .before .before .before .before .before .before .passes .held)) refl (c .before .before .before .before .before .before .before .before .interp-region .ensures .2 ∙ ap (λ (z : AnyState). full (Visits.chunkIn (c .before .before .before .before .before .before .before .before .before .before .before .before .before .before .before .before .before .before .before .before .before .before .before .before .args .t .now) (c .before .before .before .before .before .before .before .before .before .before .before .before .before .before .before .before .before .before .before .before .before .before .before .before .args .x)) (c .before .before .before .before .before .before .before .before .before .before .before .before .before .before .before .before .before .before .before .before .before .before .before .before .args .ip + 1) (c .before .before .before .before .before .before .before .before .before .before .before .before .before .before .before .before .before .before .before .before .before .before .before .before .args .exit - 1) (c .before .before .before .before .before .before .before .before .before .before .before .before .before .before .before .before .before .before .before .before .before .before .before .before .args .height) z (Outcomes.breaksOf (c .before .before .before .before .before .before .before .before .before .before .before .before .before .before .before .before .before .before .before .before .before .before .before .before .args .x .locals) (breaksIn (record { pending = Nothing; height = 0 }) (c .before .before .before .before .before .before .before .before .before .before .before .before .before .before .before .passes .broken) (c .before .before .before .before .before .before .before .before .before .before .before .before .before .before .before .passes .held))) (sheetsOf (c .before .before .before .before .before .before .before .before .before .before .before .before .before .before .before .passes .heights) (c .before .before .before .before .before .before .before .before .before .before .before .before .before .before .before .passes .blinds))) (c .before .before .before .before .before .before .before .before .before .before .before .before .before .before .before .passes .inv .3)) (c .before .f .given .1), c .before .before .before .before .before .before .before .before .before .before .before .before .before .before .before .before .before .before .before .before .before .before .before .before .pre .1 .1 .1 .2)
+passes-at-returns t c =
+    (c .before .before .before .before .before .before .before .before .interp-region .ensures .0, c .before .before .before .before .before .before .before .before .interp-region .ensures .1, Cycle.pass-refused (c .before .before .before .before .before .before .before .before .before .before .before .before .before .before .before .before .before .before .before .before .before .before .before .before .args .t .now) (c .before .before .before .before .before .before .before .before .before .before .before .before .before .before .before .before .before .before .before .before .before .before .before .before .args .x) (c .before .before .before .before .before .before .before .before .before .before .before .before .before .before .before .before .before .before .before .before .before .before .before .before .args .ip) (c .before .before .before .before .before .before .before .before .before .before .before .before .before .before .before .before .before .before .before .before .before .before .before .before .args .exit) (at (c .before .before .before .before .before .before .before .before .before .before .before .before .before .before .before .before .before .before .before .before .before .before .before .before .args .height) (c .before .before .before .before .before .before .before .before .before .before .before .before .before .before .before .before .before .before .before .before .before .before .before .before .args .slots .now) (c .before .before .before .before .before .before .before .before .before .before .before .before .before .before .before .before .before .before .before .before .before .before .before .before .args .places .now)) (c .before .before .before .before .before .before .before .before .before .before .before .before .before .before .before .before .before .before .before .before .before .before .before .before .args .heights .now) (c .before .before .before .before .before .before .before .before .before .before .before .before .before .before .before .before .before .before .before .before .before .before .before .before .args .blinds .now) (c .before .before .before .before .before .before .before .before .before .before .before .before .before .before .before .passes .heights) (c .before .before .before .before .before .before .before .before .before .before .before .before .before .before .before .passes .blinds)
+    (at (c .before .before .before .before .before .before .before .before .before .before .before .before .before .before .before .before .before .before .before .before .before .before .before .before .args .height) (c .before .before .before .before .before .before .before .before .before .before .before .before .before .before .before .passes .head) (c .before .before .before .before .before .before .before .before .before .before .before .before .before .before .before .passes .texts)) (c .before .before .before .before .before .before .before .before .before .before .before .before .before .before .before .passes .left) (c .before .before .before .before .before .before .before .before .before .before .before .before .before .before .before .passes .inv .4) (outcomeIn (c .before .before .before .before .before .before .before .before .interp-region .result) (c .before .before .before .before .before .before .before .before .interp-region .last .1 .1 .1 .0) (c .before .before .before .before .before .before .before .before .interp-region .last .1 .1 .1 .1 .0) (c .before .before .before .before .before .before .before .before .interp-region .last .1 .1 .1 .1 .1 .0) (c .before .before .before .before .before .before .before .before .interp-region .last .1 .1 .1 .1 .1 .1 .0)) _ _ (breaksIn (record { pending = Nothing; height = 0 }) (c .before .before .before .before .before .before .before .before .before .before .before .before .before .before .before .passes .broken) (c .before .before .before .before .before .before .before .before .before .before .before .before .before .before .before .passes .held)) refl (c .before .before .before .before .before .before .before .before .interp-region .ensures .2 ∙ ap (λ (z :
+    AnyState). full (Visits.chunkIn (c .before .before .before .before .before .before .before .before .before .before .before .before .before .before .before .before .before .before .before .before .before .before .before .before .args .t .now) (c .before .before .before .before .before .before .before .before .before .before .before .before .before .before .before .before .before .before .before .before .before .before .before .before .args .x)) (c .before .before .before .before .before .before .before .before .before .before .before .before .before .before .before .before .before .before .before .before .before .before .before .before .args .ip + 1) (c .before .before .before .before .before .before .before .before .before .before .before .before .before .before .before .before .before .before .before .before .before .before .before .before .args .exit - 1) (c .before .before .before .before .before .before .before .before .before .before .before .before .before .before .before .before .before .before .before .before .before .before .before .before .args .height) z (Outcomes.breaksOf (c .before .before .before .before .before .before .before .before .before .before .before .before .before .before .before .before .before .before .before .before .before .before .before .before .args .x .locals) (breaksIn (record { pending = Nothing; height = 0 }) (c .before .before .before .before .before .before .before .before .before .before .before .before .before .before .before .passes .broken) (c .before .before .before .before .before .before .before .before .before .before .before .before .before .before .before .passes .held))) (sheetsOf (c .before .before .before .before .before .before .before .before .before .before .before .before .before .before .before .passes .heights)
+    (c .before .before .before .before .before .before .before .before .before .before .before .before .before .before .before .passes .blinds))) (c .before .before .before .before .before .before .before .before .before .before .before .before .before .before .before .passes .inv .3)) (c .before .f .given .1), c .before .before .before .before .before .before .before .before .before .before .before .before .before .before .before .before .before .before .before .before .before .before .before .before .pre .1 .1 .1 .2)
 
--- src/lib.rt:543:12
+-- src/lib.rt:544:12
 passes-at-same-stack-requires : (t : ℕ) → passes-at-lts.Need-same-stack-requires (
   copy-reads.Asked,
   copy-reads.Learnt,
@@ -1683,7 +1735,7 @@ passes-at-same-stack-requires : (t : ℕ) → passes-at-lts.Need-same-stack-requ
 ) (passes-at-at t) passes-at.Post passes-at-Inv-passes passes-at-μ-passes
 passes-at-same-stack-requires t c κs = (c .before .before .before .before .before .before .before .before .before .before .before .interp-region .ensures .0, c .before .before .before .before .before .before .before .before .before .before .before .before .before .before .before .before .before .before .passes .inv .2, c .before .before .before .before .before .before .before .before .before .before .before .interp-region .ensures .3 .0)
 
--- src/lib.rt:544:13
+-- src/lib.rt:545:13
 passes-at-not-neutral-requires : (t : ℕ) → passes-at-lts.Need-not-neutral-requires (
   copy-reads.Asked,
   copy-reads.Learnt,
@@ -1706,7 +1758,7 @@ passes-at-not-neutral-requires : (t : ℕ) → passes-at-lts.Need-not-neutral-re
 ) (passes-at-at t) passes-at.Post passes-at-Inv-passes passes-at-μ-passes
 passes-at-not-neutral-requires t c κs = search needs
 
--- src/lib.rt:544:13
+-- src/lib.rt:545:13
 passes-at-same-length-3 : (t : ℕ) → passes-at-lts.Need-same-length-3 (
   copy-reads.Asked,
   copy-reads.Learnt,
@@ -1729,7 +1781,7 @@ passes-at-same-length-3 : (t : ℕ) → passes-at-lts.Need-same-length-3 (
 ) (passes-at-at t) passes-at.Post passes-at-Inv-passes passes-at-μ-passes
 passes-at-same-length-3 t c = c .before .before .before .before .before .before .before .before .before .before .before .before .before .before .interp-region .kept .1 .0 ∙ (c .before .before .before .before .before .before .before .before .before .before .before .before .before .before .before .before .before .before .before .before .before .passes .inv .4) .heights-same
 
--- src/lib.rt:544:13
+-- src/lib.rt:545:13
 passes-at-same-length-4 : (t : ℕ) → passes-at-lts.Need-same-length-4 (
   copy-reads.Asked,
   copy-reads.Learnt,
@@ -1752,7 +1804,7 @@ passes-at-same-length-4 : (t : ℕ) → passes-at-lts.Need-same-length-4 (
 ) (passes-at-at t) passes-at.Post passes-at-Inv-passes passes-at-μ-passes
 passes-at-same-length-4 t c = c .before .before .before .before .before .before .before .before .before .before .before .before .before .before .interp-region .kept .1 .1 .0 ∙ (c .before .before .before .before .before .before .before .before .before .before .before .before .before .before .before .before .before .before .before .before .before .passes .inv .4) .blinds-same
 
--- src/lib.rt:544:13
+-- src/lib.rt:545:13
 passes-at-returns-2 : (t : ℕ) → passes-at-lts.Need-returns-2 (
   copy-reads.Asked,
   copy-reads.Learnt,
@@ -1773,9 +1825,14 @@ passes-at-returns-2 : (t : ℕ) → passes-at-lts.Need-returns-2 (
   join-locals-reads.Asked,
   join-locals-reads.Learnt,
 ) (passes-at-at t) passes-at.Post passes-at-Inv-passes passes-at-μ-passes
-passes-at-returns-2 t c = (c .before .before .before .before .before .before .before .before .before .before .before .before .before .before .interp-region .ensures .0, c .before .before .before .before .before .before .before .before .before .before .before .before .before .before .interp-region .ensures .1, c .not-neutral .ensures .0 (c .before .before .before .before .before .before .before .before .before .before .before .before .before .before .before .before .before .before .before .before .before .before .before .before .before .before .before .before .before .before .args .x .locals) _ _ _ ∙ Cycle.pass-not-neutral (c .before .before .before .before .before .before .before .before .before .before .before .before .before .before .before .before .before .before .before .before .before .before .before .before .before .before .before .before .before .before .args .t .now) (c .before .before .before .before .before .before .before .before .before .before .before .before .before .before .before .before .before .before .before .before .before .before .before .before .before .before .before .before .before .before .args .x) (c .before .before .before .before .before .before .before .before .before .before .before .before .before .before .before .before .before .before .before .before .before .before .before .before .before .before .before .before .before .before .args .ip) (c .before .before .before .before .before .before .before .before .before .before .before .before .before .before .before .before .before .before .before .before .before .before .before .before .before .before .before .before .before .before .args .exit) (at (c .before .before .before .before .before .before .before .before .before .before .before .before .before .before .before .before .before .before .before .before .before .before .before .before .before .before .before .before .before .before .args .height) (c .before .before .before .before .before .before .before .before .before .before .before .before .before .before .before .before .before .before .before .before .before .before .before .before .before .before .before .before .before .before .args .slots .now) (c .before .before .before .before .before .before .before .before .before .before .before .before .before .before .before .before .before .before .before .before .before .before .before .before .before .before .before .before .before .before .args .places .now)) (c .before .before .before .before .before .before .before .before .before .before .before .before .before .before .before .before .before .before .before .before .before .before .before .before .before .before .before .before .before .before .args .heights .now) (c .before .before .before .before .before .before .before .before .before .before .before .before .before .before .before .before .before .before .before .before .before .before .before .before .before .before .before .before .before .before .args .blinds .now) (c .before .before .before .before .before .before .before .before .before .before .before .before .before .before .before .before .before .before .before .before .before .passes .heights) (c .before .before .before .before .before .before .before .before .before .before .before .before .before .before .before .before .before .before .before .before .before .passes .blinds) (at (c .before .before .before .before .before .before .before .before .before .before .before .before .before .before .before .before .before .before .before .before .before .before .before .before .before .before .before .before .before .before .args .height) (c .before .before .before .before .before .before .before .before .before .before .before .before .before .before .before .before .before .before .before .before .before .passes .head) (c .before .before .before .before .before .before .before .before .before .before .before .before .before .before .before .before .before .before .before .before .before .passes .texts)) (c .before .before .before .before .before .before .before .before .before .before .before .before .before .before .before .before .before .before .before .before .before .passes .left) (c .before .before .before .before .before .before .before .before .before .before .before .before .before .before .before .before .before .before .before .before .before .passes .inv .4) (outcomeIn (c .before .before .before .before .before .before .before .before .before .before .before .before .before .before .interp-region .result) (c .before .before .before .before .before .before .before .before .before .before .before .before .before .before .interp-region .last .1 .1 .1 .0) (c .before .before .before .before .before .before .before .before .before .before .before .before .before .before .interp-region .last .1 .1 .1 .1 .0) (c .before .before .before .before .before .before .before .before .before .before .before .before .before .before .interp-region .last .1 .1 .1 .1 .1 .0) (c .before .before .before .before .before .before .before .before .before .before .before .before .before .before .interp-region .last .1 .1 .1 .1 .1 .1 .0)) _ _ (breaksIn (record { pending = Nothing; height = 0 }) (c .before .before .before .before .before .before .before .before .before .before .before .before .before .before .before .before .before .before .before .before .before .passes .broken) (c .before .before .before .before .before .before .before .before .before .before .before .before .before .before .before .before .before .before .before .before .before .passes .held)) refl (c .before .before .before .before .before .before .before .before .before .before .before .before .before .before .interp-region .ensures .2 ∙ ap (λ (z : AnyState). full (Visits.chunkIn (c .before .before .before .before .before .before .before .before .before .before .before .before .before .before .before .before .before .before .before .before .before .before .before .before .before .before .before .before .before .before .args .t .now) (c .before .before .before .before .before .before .before .before .before .before .before .before .before .before .before .before .before .before .before .before .before .before .before .before .before .before .before .before .before .before .args .x)) (c .before .before .before .before .before .before .before .before .before .before .before .before .before .before .before .before .before .before .before .before .before .before .before .before .before .before .before .before .before .before .args .ip + 1) (c .before .before .before .before .before .before .before .before .before .before .before .before .before .before .before .before .before .before .before .before .before .before .before .before .before .before .before .before .before .before .args .exit - 1) (c .before .before .before .before .before .before .before .before .before .before .before .before .before .before .before .before .before .before .before .before .before .before .before .before .before .before .before .before .before .before .args .height) z (Outcomes.breaksOf (c .before .before .before .before .before .before .before .before .before .before .before .before .before .before .before .before .before .before .before .before .before .before .before .before .before .before .before .before .before .before .args .x .locals) (breaksIn (record { pending = Nothing; height = 0 }) (c .before .before .before .before .before .before .before .before .before .before .before .before .before .before .before .before .before .before .before .before .before .passes .broken) (c .before .before .before .before .before .before .before .before .before .before .before .before .before .before .before .before .before .before .before .before .before .passes .held))) (sheetsOf (c .before .before .before .before .before .before .before .before .before .before .before .before .before .before .before .before .before .before .before .before .before .passes .heights) (c .before .before .before .before .before .before .before .before .before .before .before .before .before .before .before .before .before .before .before .before .before .passes .blinds))) (c .before .before .before .before .before .before .before .before .before .before .before .before .before .before .before .before .before .before .before .before .before .passes .inv .3)) (c .before .before .before .before .before .before .before .enum-told .given .1) (sym (c .before .before .same-stack .ensures) ∙ c .before .if1 .left), subst (λ (z : ℕ). z ≤ 64) (sym (c .not-neutral .ensures .1)) (c .before .before .before .before .before .before .before .before .before .before .before .before .before .before .before .before .before .before .before .before .before .before .before .before .before .before .before .before .before .before .pre .1 .1 .1 .2))
+passes-at-returns-2 t c =
+    (c .before .before .before .before .before .before .before .before .before .before .before .before .before .before .interp-region .ensures .0, c .before .before .before .before .before .before .before .before .before .before .before .before .before .before .interp-region .ensures .1, c .not-neutral .ensures .0 (c .before .before .before .before .before .before .before .before .before .before .before .before .before .before .before .before .before .before .before .before .before .before .before .before .before .before .before .before .before .before .args .x .locals) _ _ _ ∙ Cycle.pass-not-neutral (c .before .before .before .before .before .before .before .before .before .before .before .before .before .before .before .before .before .before .before .before .before .before .before .before .before .before .before .before .before .before .args .t .now) (c .before .before .before .before .before .before .before .before .before .before .before .before .before .before .before .before .before .before .before .before .before .before .before .before .before .before .before .before .before .before .args .x) (c .before .before .before .before .before .before .before .before .before .before .before .before .before .before .before .before .before .before .before .before .before .before .before .before .before .before .before .before .before .before .args .ip) (c .before .before .before .before .before .before .before .before .before .before .before .before .before .before .before .before .before .before .before .before .before .before .before .before .before .before .before .before .before .before .args .exit)
+    (at (c .before .before .before .before .before .before .before .before .before .before .before .before .before .before .before .before .before .before .before .before .before .before .before .before .before .before .before .before .before .before .args .height) (c .before .before .before .before .before .before .before .before .before .before .before .before .before .before .before .before .before .before .before .before .before .before .before .before .before .before .before .before .before .before .args .slots .now) (c .before .before .before .before .before .before .before .before .before .before .before .before .before .before .before .before .before .before .before .before .before .before .before .before .before .before .before .before .before .before .args .places .now)) (c .before .before .before .before .before .before .before .before .before .before .before .before .before .before .before .before .before .before .before .before .before .before .before .before .before .before .before .before .before .before .args .heights .now) (c .before .before .before .before .before .before .before .before .before .before .before .before .before .before .before .before .before .before .before .before .before .before .before .before .before .before .before .before .before .before .args .blinds .now) (c .before .before .before .before .before .before .before .before .before .before .before .before .before .before .before .before .before .before .before .before .before .passes .heights) (c .before .before .before .before .before .before .before .before .before .before .before .before .before .before .before .before .before .before .before .before .before .passes .blinds) (at (c .before .before .before .before .before .before .before .before .before .before .before .before .before .before .before .before .before .before .before .before .before .before .before .before .before .before .before .before .before .before .args .height) (c .before .before .before .before .before .before .before .before .before .before .before .before .before .before .before .before .before .before .before .before .before .passes .head) (c .before .before .before .before .before .before .before .before .before .before .before .before .before .before .before .before .before .before .before .before .before .passes .texts)) (c .before .before .before .before .before .before .before .before .before .before .before .before .before .before .before .before .before .before .before .before .before .passes .left) (c .before .before .before .before .before .before .before .before .before .before .before .before .before .before .before .before .before .before .before .before .before .passes .inv .4) (outcomeIn (c .before .before .before .before .before .before .before .before .before .before .before .before .before .before .interp-region .result) (c .before .before .before .before .before .before .before .before .before .before .before .before .before .before .interp-region .last .1 .1 .1 .0) (c .before .before .before .before .before .before .before .before .before .before .before .before .before .before .interp-region .last .1 .1 .1 .1 .0) (c .before .before .before .before .before .before .before .before .before .before .before .before .before .before .interp-region .last .1 .1 .1 .1 .1 .0) (c .before .before .before .before .before .before .before .before .before .before .before .before .before .before .interp-region .last .1 .1 .1 .1 .1 .1 .0))
+    _ _ (breaksIn (record { pending = Nothing; height = 0 }) (c .before .before .before .before .before .before .before .before .before .before .before .before .before .before .before .before .before .before .before .before .before .passes .broken) (c .before .before .before .before .before .before .before .before .before .before .before .before .before .before .before .before .before .before .before .before .before .passes .held)) refl (c .before .before .before .before .before .before .before .before .before .before .before .before .before .before .interp-region .ensures .2 ∙ ap (λ (z : AnyState). full (Visits.chunkIn (c .before .before .before .before .before .before .before .before .before .before .before .before .before .before .before .before .before .before .before .before .before .before .before .before .before .before .before .before .before .before .args .t .now) (c .before .before .before .before .before .before .before .before .before .before .before .before .before .before .before .before .before .before .before .before .before .before .before .before .before .before .before .before .before .before .args .x)) (c .before .before .before .before .before .before .before .before .before .before .before .before .before .before .before .before .before .before .before .before .before .before .before .before .before .before .before .before .before .before .args .ip + 1) (c .before .before .before .before .before .before .before .before .before .before .before .before .before .before .before .before .before .before .before .before .before .before .before .before .before .before .before .before .before .before .args .exit - 1) (c .before .before .before .before .before .before .before .before .before .before .before .before .before .before .before .before .before .before .before .before .before .before .before .before .before .before .before .before .before .before .args .height) z (Outcomes.breaksOf
+    (c .before .before .before .before .before .before .before .before .before .before .before .before .before .before .before .before .before .before .before .before .before .before .before .before .before .before .before .before .before .before .args .x .locals) (breaksIn (record { pending = Nothing; height = 0 }) (c .before .before .before .before .before .before .before .before .before .before .before .before .before .before .before .before .before .before .before .before .before .passes .broken) (c .before .before .before .before .before .before .before .before .before .before .before .before .before .before .before .before .before .before .before .before .before .passes .held))) (sheetsOf (c .before .before .before .before .before .before .before .before .before .before .before .before .before .before .before .before .before .before .before .before .before .passes .heights) (c .before .before .before .before .before .before .before .before .before .before .before .before .before .before .before .before .before .before .before .before .before .passes .blinds))) (c .before .before .before .before .before .before .before .before .before .before .before .before .before .before .before .before .before .before .before .before .before .passes .inv .3)) (c .before .before .before .before .before .before .before .enum-told .given .1) (sym
+    (c .before .before .same-stack .ensures) ∙ c .before .if1 .left), subst (λ (z : ℕ). z ≤ 64) (sym (c .not-neutral .ensures .1)) (c .before .before .before .before .before .before .before .before .before .before .before .before .before .before .before .before .before .before .before .before .before .before .before .before .before .before .before .before .before .before .pre .1 .1 .1 .2))
 
--- src/lib.rt:546:12
+-- src/lib.rt:547:12
 passes-at-covers-locals-requires : (t : ℕ) → passes-at-lts.Need-covers-locals-requires (
   copy-reads.Asked,
   copy-reads.Learnt,
@@ -1798,7 +1855,7 @@ passes-at-covers-locals-requires : (t : ℕ) → passes-at-lts.Need-covers-local
 ) (passes-at-at t) passes-at.Post passes-at-Inv-passes passes-at-μ-passes
 passes-at-covers-locals-requires t c κs = (c .before .before .before .before .before .before .before .before .before .before .before .before .before .before .before .before .before .before .before .before .before .before .before .before .passes .inv .2, c .before .before .before .before .before .before .before .before .before .before .before .before .before .before .before .before .before .interp-region .ensures .0, omega (arith, c .before .before .before .before .before .before .before .before .before .before .before .before .before .before .before .before .before .before .before .before .before .before .before .before .before .before .before .before .before .before .before .before .before .pre .1 .0 .of .locals, locals-low (c .before .before .before .before .before .before .before .before .before .before .before .before .before .before .before .before .before .before .before .before .before .before .before .before .before .before .before .before .before .before .before .before .before .args .t .now) (c .before .before .before .before .before .before .before .before .before .before .before .before .before .before .before .before .before .before .before .before .before .before .before .before .before .before .before .before .before .before .before .before .before .args .x .chunk)))
 
--- src/lib.rt:547:27
+-- src/lib.rt:548:27
 passes-at-leave-loop-requires : (t : ℕ) → passes-at-lts.Need-leave-loop-requires (
   copy-reads.Asked,
   copy-reads.Learnt,
@@ -1821,7 +1878,7 @@ passes-at-leave-loop-requires : (t : ℕ) → passes-at-lts.Need-leave-loop-requ
 ) (passes-at-at t) passes-at.Post passes-at-Inv-passes passes-at-μ-passes
 passes-at-leave-loop-requires t c κs = (c .before .before .before .before .before .before .before .before .before .before .before .before .before .before .before .before .before .before .before .before .before .before .before .interp-region .ensures .0, c .before .before .before .before .before .before .before .before .before .before .before .before .before .before .before .before .before .before .before .before .before .before .before .interp-region .ensures .1, c .before .before .before .before .before .before .before .before .before .before .before .before .before .before .before .before .before .before .before .before .before .before .before .interp-region .ensures .3 .0, c .before .before .before .before .before .before .before .before .before .before .before .before .before .before .before .before .before .before .before .before .before .before .before .interp-region .ensures .3 .1, omega (arith, c .before .before .before .before .before .before .before .before .before .before .before .before .before .before .before .before .before .before .before .before .before .before .before .before .before .before .before .before .before .before .before .before .before .before .before .before .before .before .before .pre .1 .0 .of .locals, locals-low (c .before .before .before .before .before .before .before .before .before .before .before .before .before .before .before .before .before .before .before .before .before .before .before .before .before .before .before .before .before .before .before .before .before .before .before .before .before .before .before .args .t .now) (c .before .before .before .before .before .before .before .before .before .before .before .before .before .before .before .before .before .before .before .before .before .before .before .before .before .before .before .before .before .before .before .before .before .before .before .before .before .before .before .args .x .chunk)))
 
--- src/lib.rt:550:27
+-- src/lib.rt:551:27
 passes-at-last-pass-requires : (t : ℕ) → passes-at-lts.Need-last-pass-requires (
   copy-reads.Asked,
   copy-reads.Learnt,
@@ -1842,9 +1899,12 @@ passes-at-last-pass-requires : (t : ℕ) → passes-at-lts.Need-last-pass-requir
   join-locals-reads.Asked,
   join-locals-reads.Learnt,
 ) (passes-at-at t) passes-at.Post passes-at-Inv-passes passes-at-μ-passes
-passes-at-last-pass-requires t c κs = (omega (arith, c .before .before .before .before .before .before .before .before .before .before .before .before .before .before .before .before .before .before .before .before .before .before .before .before .before .before .before .before .before .before .before .before .before .before .before .before .before .before .before .before .before .before .before .before .pre .0, c .before .before .before .before .before .before .before .before .before .before .before .before .before .before .before .before .before .before .before .before .before .before .before .before .before .before .before .before .before .before .before .before .before .before .before .before .before .before .before .before .before .before .before .before .pre .1 .1 .1 .0), (Cycle.placed-by (c .before .before .before .before .before .before .before .before .before .before .before .before .before .before .before .before .before .before .before .before .before .before .before .before .before .before .before .before .before .before .before .before .before .before .before .before .before .before .before .before .before .before .before .before .args .t .now) (c .before .before .before .before .before .before .before .before .before .before .before .before .before .before .before .before .before .before .before .before .before .before .before .before .before .before .before .before .before .before .before .before .before .before .before .before .before .before .before .before .before .before .before .before .args .heights .now) (c .before .before .before .before .before .before .before .before .before .before .before .before .before .before .before .before .before .before .before .before .before .before .before .before .before .before .before .before .before .before .before .before .before .before .before .before .before .before .before .before .before .before .before .before .args .blinds .now) _ _ (c .before .before .before .before .before .before .before .before .before .before .before .before .before .before .before .before .before .before .before .before .before .before .before .before .before .before .before .before .before .before .before .before .before .before .before .before .before .before .before .before .before .before .before .before .args .x) (c .before .before .before .before .before .before .before .before .before .before .before .before .before .before .before .before .before .before .before .before .before .before .before .before .before .before .before .before .interp-region .kept .1 .0 ∙ (c .before .before .before .before .before .before .before .before .before .before .before .before .before .before .before .before .before .before .before .before .before .before .before .before .before .before .before .before .before .before .before .before .before .before .before .passes .inv .4) .heights-same) (c .before .before .before .before .before .before .before .before .before .before .before .before .before .before .before .before .before .before .before .before .before .before .before .before .before .before .before .before .interp-region .kept .1 .1 .0 ∙ (c .before .before .before .before .before .before .before .before .before .before .before .before .before .before .before .before .before .before .before .before .before .before .before .before .before .before .before .before .before .before .before .before .before .before .before .passes .inv .4) .blinds-same) (c .before .before .before .before .before .before .before .before .before .before .before .before .before .before .before .before .before .before .before .before .before .before .before .before .before .before .before .before .before .before .before .before .before .before .before .before .before .before .before .before .before .before .before .before .pre .1 .0), ((c .before .before .before .before .before .before .before .before .before .before .before .before .before .before .before .before .before .before .before .before .before .before .before .before .before .before .before .before .interp-region .ensures .0, c .before .before .before .before .before .before .before .before .before .before .before .before .before .before .before .before .before .before .before .before .before .before .before .before .before .before .before .before .interp-region .ensures .1, c .before .before .before .before .before .before .before .before .before .before .before .before .before .before .before .before .before .before .before .before .before .before .before .before .before .before .before .before .before .before .before .before .before .before .before .passes .inv .2), (c .before .before .before .before .before .before .before .before .before .before .before .before .before .before .before .before .before .before .before .before .before .before .before .before .before .before .before .before .before .before .before .before .before .before .before .before .before .before .before .before .before .before .before .before .pre .1 .1 .1 .0, c .before .before .before .before .before .before .before .before .before .before .before .before .before .before .before .before .before .before .before .before .before .before .before .before .before .before .before .before .before .before .before .before .before .before .before .before .before .before .before .before .before .before .before .before .pre .1 .1 .1 .1, c .before .before .before .before .before .before .before .before .before .before .before .before .before .before .before .before .before .before .before .before .before .before .before .before .before .before .before .before .before .before .before .before .before .before .before .before .before .before .before .before .before .before .before .before .pre .1 .1 .1 .2, c .before .before .before .before .before .before .before .before .before .before .before .before .before .before .before .before .before .before .before .before .before .before .before .before .before .before .before .before .before .before .before .before .before .before .before .before .before .before .before .before .before .before .before .before .pre .1 .1 .1 .2, c .before .before .before .before .before .before .before .before .before .before .before .before .before .before .before .before .before .before .before .before .before .before .before .before .before .before .before .before .before .before .before .before .before .before .before .before .before .before .before .before .before .before .before .before .pre .1 .1 .1 .3))))
+passes-at-last-pass-requires t c κs =
+    (omega (arith, c .before .before .before .before .before .before .before .before .before .before .before .before .before .before .before .before .before .before .before .before .before .before .before .before .before .before .before .before .before .before .before .before .before .before .before .before .before .before .before .before .before .before .before .before .pre .0, c .before .before .before .before .before .before .before .before .before .before .before .before .before .before .before .before .before .before .before .before .before .before .before .before .before .before .before .before .before .before .before .before .before .before .before .before .before .before .before .before .before .before .before .before .pre .1 .1 .1 .0), (Cycle.placed-by (c .before .before .before .before .before .before .before .before .before .before .before .before .before .before .before .before .before .before .before .before .before .before .before .before .before .before .before .before .before .before .before .before .before .before .before .before .before .before .before .before .before .before .before .before .args .t .now) (c .before .before .before .before .before .before .before .before .before .before .before .before .before .before .before .before .before .before .before .before .before .before .before .before .before .before .before .before .before .before .before .before .before .before .before .before .before .before .before .before .before .before .before .before .args .heights .now) (c .before .before .before .before .before .before .before .before .before .before .before .before .before .before .before .before .before .before .before .before .before .before .before .before .before .before .before .before .before .before .before .before .before .before .before .before .before .before .before .before .before .before .before .before .args .blinds .now) _ _ (c .before .before .before .before .before .before .before .before .before .before .before .before .before .before .before .before .before .before .before .before .before .before .before .before .before .before .before .before .before .before .before .before .before .before .before .before .before .before .before .before .before .before .before .before .args .x) (c .before .before .before .before .before .before .before .before .before .before .before .before .before .before .before .before .before .before .before .before .before .before .before .before .before .before .before .before .interp-region .kept .1 .0 ∙ (c .before .before .before .before .before .before .before .before .before .before .before .before .before .before .before .before .before .before .before .before .before .before .before .before .before .before .before .before .before .before .before .before .before .before .before .passes .inv .4) .heights-same)
+    (c .before .before .before .before .before .before .before .before .before .before .before .before .before .before .before .before .before .before .before .before .before .before .before .before .before .before .before .before .interp-region .kept .1 .1 .0 ∙ (c .before .before .before .before .before .before .before .before .before .before .before .before .before .before .before .before .before .before .before .before .before .before .before .before .before .before .before .before .before .before .before .before .before .before .before .passes .inv .4) .blinds-same) (c .before .before .before .before .before .before .before .before .before .before .before .before .before .before .before .before .before .before .before .before .before .before .before .before .before .before .before .before .before .before .before .before .before .before .before .before .before .before .before .before .before .before .before .before .pre .1 .0), ((c .before .before .before .before .before .before .before .before .before .before .before .before .before .before .before .before .before .before .before .before .before .before .before .before .before .before .before .before .interp-region .ensures .0, c .before .before .before .before .before .before .before .before .before .before .before .before .before .before .before .before .before .before .before .before .before .before .before .before .before .before .before .before .interp-region .ensures .1, c .before .before .before .before .before .before .before .before .before .before .before .before .before .before .before .before .before .before .before .before .before .before .before .before .before .before .before .before .before .before .before .before .before .before .before .passes .inv .2),
+    (c .before .before .before .before .before .before .before .before .before .before .before .before .before .before .before .before .before .before .before .before .before .before .before .before .before .before .before .before .before .before .before .before .before .before .before .before .before .before .before .before .before .before .before .before .pre .1 .1 .1 .0, c .before .before .before .before .before .before .before .before .before .before .before .before .before .before .before .before .before .before .before .before .before .before .before .before .before .before .before .before .before .before .before .before .before .before .before .before .before .before .before .before .before .before .before .before .pre .1 .1 .1 .1, c .before .before .before .before .before .before .before .before .before .before .before .before .before .before .before .before .before .before .before .before .before .before .before .before .before .before .before .before .before .before .before .before .before .before .before .before .before .before .before .before .before .before .before .before .pre .1 .1 .1 .2, c .before .before .before .before .before .before .before .before .before .before .before .before .before .before .before .before .before .before .before .before .before .before .before .before .before .before .before .before .before .before .before .before .before .before .before .before .before .before .before .before .before .before .before .before .pre .1 .1 .1 .2, c .before .before .before .before .before .before .before .before .before .before .before .before .before .before .before .before .before .before .before .before .before .before .before .before .before .before .before .before .before .before .before .before .before .before .before .before .before .before .before .before .before .before .before .before .pre .1 .1 .1 .3))))
 
--- src/lib.rt:567:9
+-- src/lib.rt:568:9
 passes-at-join-locals-requires : (t : ℕ) → passes-at-lts.Need-join-locals-requires (
   copy-reads.Asked,
   copy-reads.Learnt,
@@ -1867,7 +1927,7 @@ passes-at-join-locals-requires : (t : ℕ) → passes-at-lts.Need-join-locals-re
 ) (passes-at-at t) passes-at.Post passes-at-Inv-passes passes-at-μ-passes
 passes-at-join-locals-requires t c κs = (c .before .before .before .before .before .before .before .before .before .before .before .before .before .before .before .before .before .before .before .before .before .before .before .before .before .before .before .before .before .before .before .passes .inv .2, c .before .before .before .before .before .before .before .before .before .before .before .before .before .before .before .before .before .before .before .before .before .before .before .before .interp-region .ensures .0, omega (arith, c .before .before .before .before .before .before .before .before .before .before .before .before .before .before .before .before .before .before .before .before .before .before .before .before .before .before .before .before .before .before .before .before .before .before .before .before .before .before .before .before .pre .1 .0 .of .locals, locals-low (c .before .before .before .before .before .before .before .before .before .before .before .before .before .before .before .before .before .before .before .before .before .before .before .before .before .before .before .before .before .before .before .before .before .before .before .before .before .before .before .before .args .t .now) (c .before .before .before .before .before .before .before .before .before .before .before .before .before .before .before .before .before .before .before .before .before .before .before .before .before .before .before .before .before .before .before .before .before .before .before .before .before .before .before .before .args .x .chunk)))
 
--- src/lib.rt:568:9
+-- src/lib.rt:569:9
 passes-at-copy-requires-2 : (t : ℕ) → passes-at-lts.Need-copy-requires-2 (
   copy-reads.Asked,
   copy-reads.Learnt,
@@ -1890,7 +1950,7 @@ passes-at-copy-requires-2 : (t : ℕ) → passes-at-lts.Need-copy-requires-2 (
 ) (passes-at-at t) passes-at.Post passes-at-Inv-passes passes-at-μ-passes
 passes-at-copy-requires-2 t c κs = (c .before .before .before .before .before .before .before .before .before .before .before .before .before .before .before .before .before .before .before .before .before .before .before .before .before .before .before .before .before .interp-region .ensures .0, c .before .before .before .before .join-locals .ensures .0, c .before .before .before .before .before .before .before .before .before .before .before .before .before .before .before .before .before .before .before .before .before .before .before .before .before .before .before .before .before .before .before .before .before .before .before .before .before .before .before .before .before .before .before .before .before .pre .1 .1 .1 .2, omega (arith, c .before .before .before .before .before .before .before .before .before .before .before .before .before .before .before .before .before .before .before .before .before .before .before .before .before .before .before .before .before .before .before .before .before .before .before .before .before .before .before .before .before .before .before .before .before .pre .1 .0 .of .locals, locals-low (c .before .before .before .before .before .before .before .before .before .before .before .before .before .before .before .before .before .before .before .before .before .before .before .before .before .before .before .before .before .before .before .before .before .before .before .before .before .before .before .before .before .before .before .before .before .args .t .now) (c .before .before .before .before .before .before .before .before .before .before .before .before .before .before .before .before .before .before .before .before .before .before .before .before .before .before .before .before .before .before .before .before .before .before .before .before .before .before .before .before .before .before .before .before .before .args .x .chunk)))
 
--- src/lib.rt:569:9
+-- src/lib.rt:570:9
 passes-at-sub-left : (t : ℕ) → passes-at-lts.Need-sub-left (
   copy-reads.Asked,
   copy-reads.Learnt,
@@ -1913,7 +1973,7 @@ passes-at-sub-left : (t : ℕ) → passes-at-lts.Need-sub-left (
 ) (passes-at-at t) passes-at.Post passes-at-Inv-passes passes-at-μ-passes
 passes-at-sub-left t c = omega (arith, c .before .before .before .before .before .before .before .before .before .before .if3 .left)
 
--- src/lib.rt:497:9
+-- src/lib.rt:498:9
 passes-at-passes-less : (t : ℕ) → passes-at-lts.Need-passes-less (
   copy-reads.Asked,
   copy-reads.Learnt,
@@ -1936,7 +1996,7 @@ passes-at-passes-less : (t : ℕ) → passes-at-lts.Need-passes-less (
 ) (passes-at-at t) passes-at.Post passes-at-Inv-passes passes-at-μ-passes
 passes-at-passes-less t c = omega (arith, c .before .before .before .before .before .before .before .before .before .before .if3 .left)
 
--- src/lib.rt:497:9
+-- src/lib.rt:498:9
 passes-at-passes-again : (t : ℕ) → passes-at-lts.Need-passes-again (
   copy-reads.Asked,
   copy-reads.Learnt,
@@ -1958,9 +2018,15 @@ passes-at-passes-again : (t : ℕ) → passes-at-lts.Need-passes-again (
   join-locals-reads.Learnt,
 ) (passes-at-at t) passes-at.Post passes-at-Inv-passes passes-at-μ-passes
 unfolding covers-all
-passes-at-passes-again t c = (c .copy2 .ensures .0, c .before .before .before .before .before .before .before .before .before .before .before .before .before .before .before .before .before .before .before .before .before .before .before .before .before .before .before .before .before .before .interp-region .ensures .1, c .before .before .before .before .before .join-locals .ensures .0, c .copy2 .ensures .1, Cycle.pass-again (c .before .before .before .before .before .before .before .before .before .before .before .before .before .before .before .before .before .before .before .before .before .before .before .before .before .before .before .before .before .before .before .before .before .before .before .before .before .before .before .before .before .before .before .before .before .before .args .t .now) (c .before .before .before .before .before .before .before .before .before .before .before .before .before .before .before .before .before .before .before .before .before .before .before .before .before .before .before .before .before .before .before .before .before .before .before .before .before .before .before .before .before .before .before .before .before .before .args .x) (c .before .before .before .before .before .before .before .before .before .before .before .before .before .before .before .before .before .before .before .before .before .before .before .before .before .before .before .before .before .before .before .before .before .before .before .before .before .before .before .before .before .before .before .before .before .before .args .ip) (c .before .before .before .before .before .before .before .before .before .before .before .before .before .before .before .before .before .before .before .before .before .before .before .before .before .before .before .before .before .before .before .before .before .before .before .before .before .before .before .before .before .before .before .before .before .before .args .exit) (at (c .before .before .before .before .before .before .before .before .before .before .before .before .before .before .before .before .before .before .before .before .before .before .before .before .before .before .before .before .before .before .before .before .before .before .before .before .before .before .before .before .before .before .before .before .before .before .args .height) (c .before .before .before .before .before .before .before .before .before .before .before .before .before .before .before .before .before .before .before .before .before .before .before .before .before .before .before .before .before .before .before .before .before .before .before .before .before .before .before .before .before .before .before .before .before .before .args .slots .now) (c .before .before .before .before .before .before .before .before .before .before .before .before .before .before .before .before .before .before .before .before .before .before .before .before .before .before .before .before .before .before .before .before .before .before .before .before .before .before .before .before .before .before .before .before .before .before .args .places .now)) (c .before .before .before .before .before .before .before .before .before .before .before .before .before .before .before .before .before .before .before .before .before .before .before .before .before .before .before .before .before .before .before .before .before .before .before .before .before .before .before .before .before .before .before .before .before .before .args .heights .now) (c .before .before .before .before .before .before .before .before .before .before .before .before .before .before .before .before .before .before .before .before .before .before .before .before .before .before .before .before .before .before .before .before .before .before .before .before .before .before .before .before .before .before .before .before .before .before .args .blinds .now) (c .before .before .before .before .before .before .before .before .before .before .before .before .before .before .before .before .before .before .before .before .before .before .before .before .before .before .before .before .before .before .before .before .before .before .before .before .before .passes .heights) (c .before .before .before .before .before .before .before .before .before .before .before .before .before .before .before .before .before .before .before .before .before .before .before .before .before .before .before .before .before .before .before .before .before .before .before .before .before .passes .blinds) (at (c .before .before .before .before .before .before .before .before .before .before .before .before .before .before .before .before .before .before .before .before .before .before .before .before .before .before .before .before .before .before .before .before .before .before .before .before .before .before .before .before .before .before .before .before .before .before .args .height) (c .before .before .before .before .before .before .before .before .before .before .before .before .before .before .before .before .before .before .before .before .before .before .before .before .before .before .before .before .before .before .before .before .before .before .before .before .before .passes .head) (c .before .before .before .before .before .before .before .before .before .before .before .before .before .before .before .before .before .before .before .before .before .before .before .before .before .before .before .before .before .before .before .before .before .before .before .before .before .passes .texts)) (c .before .before .before .before .before .before .before .before .before .before .before .before .before .before .before .before .before .before .before .before .before .before .before .before .before .before .before .before .before .before .before .before .before .before .before .before .before .passes .left) (c .before .before .before .before .before .before .before .before .before .before .before .before .before .before .before .before .before .before .before .before .before .before .before .before .before .before .before .before .before .before .before .before .before .before .before .before .before .passes .inv .4) (outcomeIn (c .before .before .before .before .before .before .before .before .before .before .before .before .before .before .before .before .before .before .before .before .before .before .before .before .before .before .before .before .before .before .interp-region .result) (c .before .before .before .before .before .before .before .before .before .before .before .before .before .before .before .before .before .before .before .before .before .before .before .before .before .before .before .before .before .before .interp-region .last .1 .1 .1 .0) (c .before .before .before .before .before .before .before .before .before .before .before .before .before .before .before .before .before .before .before .before .before .before .before .before .before .before .before .before .before .before .interp-region .last .1 .1 .1 .1 .0) (c .before .before .before .before .before .before .before .before .before .before .before .before .before .before .before .before .before .before .before .before .before .before .before .before .before .before .before .before .before .before .interp-region .last .1 .1 .1 .1 .1 .0) (c .before .before .before .before .before .before .before .before .before .before .before .before .before .before .before .before .before .before .before .before .before .before .before .before .before .before .before .before .before .before .interp-region .last .1 .1 .1 .1 .1 .1 .0)) _ _ (breaksIn (record { pending = Nothing; height = 0 }) (c .before .before .before .before .before .before .before .before .before .before .before .before .before .before .before .before .before .before .before .before .before .before .before .before .before .before .before .before .before .before .before .before .before .before .before .before .before .passes .broken) (c .before .before .before .before .before .before .before .before .before .before .before .before .before .before .before .before .before .before .before .before .before .before .before .before .before .before .before .before .before .before .before .before .before .before .before .before .before .passes .held)) refl (c .before .before .before .before .before .before .before .before .before .before .before .before .before .before .before .before .before .before .before .before .before .before .before .before .before .before .before .before .before .before .interp-region .ensures .2 ∙ ap (λ (z : AnyState). full (Visits.chunkIn (c .before .before .before .before .before .before .before .before .before .before .before .before .before .before .before .before .before .before .before .before .before .before .before .before .before .before .before .before .before .before .before .before .before .before .before .before .before .before .before .before .before .before .before .before .before .before .args .t .now) (c .before .before .before .before .before .before .before .before .before .before .before .before .before .before .before .before .before .before .before .before .before .before .before .before .before .before .before .before .before .before .before .before .before .before .before .before .before .before .before .before .before .before .before .before .before .before .args .x)) (c .before .before .before .before .before .before .before .before .before .before .before .before .before .before .before .before .before .before .before .before .before .before .before .before .before .before .before .before .before .before .before .before .before .before .before .before .before .before .before .before .before .before .before .before .before .before .args .ip + 1) (c .before .before .before .before .before .before .before .before .before .before .before .before .before .before .before .before .before .before .before .before .before .before .before .before .before .before .before .before .before .before .before .before .before .before .before .before .before .before .before .before .before .before .before .before .before .before .args .exit - 1) (c .before .before .before .before .before .before .before .before .before .before .before .before .before .before .before .before .before .before .before .before .before .before .before .before .before .before .before .before .before .before .before .before .before .before .before .before .before .before .before .before .before .before .before .before .before .before .args .height) z (Outcomes.breaksOf (c .before .before .before .before .before .before .before .before .before .before .before .before .before .before .before .before .before .before .before .before .before .before .before .before .before .before .before .before .before .before .before .before .before .before .before .before .before .before .before .before .before .before .before .before .before .before .args .x .locals) (breaksIn (record { pending = Nothing; height = 0 }) (c .before .before .before .before .before .before .before .before .before .before .before .before .before .before .before .before .before .before .before .before .before .before .before .before .before .before .before .before .before .before .before .before .before .before .before .before .before .passes .broken) (c .before .before .before .before .before .before .before .before .before .before .before .before .before .before .before .before .before .before .before .before .before .before .before .before .before .before .before .before .before .before .before .before .before .before .before .before .before .passes .held))) (sheetsOf (c .before .before .before .before .before .before .before .before .before .before .before .before .before .before .before .before .before .before .before .before .before .before .before .before .before .before .before .before .before .before .before .before .before .before .before .before .before .passes .heights) (c .before .before .before .before .before .before .before .before .before .before .before .before .before .before .before .before .before .before .before .before .before .before .before .before .before .before .before .before .before .before .before .before .before .before .before .before .before .passes .blinds))) (c .before .before .before .before .before .before .before .before .before .before .before .before .before .before .before .before .before .before .before .before .before .before .before .before .before .before .before .before .before .before .before .before .before .before .before .before .before .passes .inv .3)) (c .before .before .before .before .before .before .before .before .before .before .before .before .before .before .before .before .before .before .before .before .before .before .before .enum-told .given .1) (sym (c .before .before .before .before .before .before .before .before .before .before .before .before .before .before .before .before .before .before .same-stack .ensures) ∙ c .before .before .before .before .before .before .before .before .before .before .before .before .before .before .before .before .before .if1 .taken) (sym (c .before .before .before .before .before .before .before .before .before .before .before .before .covers-locals .ensures 0 0) ∙ c .before .before .before .before .before .before .before .before .before .before .before .if2 .left) (c .before .before .before .before .before .before .before .before .before .before .if3 .left) (at (c .before .before .before .before .before .before .before .before .before .before .before .before .before .before .before .before .before .before .before .before .before .before .before .before .before .before .before .before .before .before .before .before .before .before .before .before .before .before .before .before .before .before .before .before .before .before .args .height) (c .before .before .before .before .before .join-locals .last .0) (c .before .before .before .before .before .join-locals .last .1 .0)) refl (c .before .before .before .before .before .join-locals .ensures .1 (c .before .before .before .before .before .before .before .before .before .before .before .before .before .before .before .before .before .before .before .before .before .before .before .before .before .before .before .before .before .before .before .before .before .before .before .before .before .before .before .before .before .before .before .before .before .before .args .height) (c .before .before .before .before .before .before .before .before .before .before .before .before .before .before .before .before .before .before .before .before .before .before .before .before .before .before .before .before .before .before .before .before .before .before .before .before .before .before .before .before .before .before .before .before .before .before .pre .1 .1 .1 .2)) (c .before .before .before .before .before .before .before .before .before .before .before .before .before .before .before .before .before .before .before .before .before .before .before .before .before .before .before .before .before .before .interp-region .kept .1 .0) (c .before .before .before .before .before .before .before .before .before .before .before .before .before .before .before .before .before .before .before .before .before .before .before .before .before .before .before .before .before .before .interp-region .kept .1 .1 .0))
+passes-at-passes-again t c =
+    (c .copy2 .ensures .0, c .before .before .before .before .before .before .before .before .before .before .before .before .before .before .before .before .before .before .before .before .before .before .before .before .before .before .before .before .before .before .interp-region .ensures .1, c .before .before .before .before .before .join-locals .ensures .0, c .copy2 .ensures .1, Cycle.pass-again (c .before .before .before .before .before .before .before .before .before .before .before .before .before .before .before .before .before .before .before .before .before .before .before .before .before .before .before .before .before .before .before .before .before .before .before .before .before .before .before .before .before .before .before .before .before .before .args .t .now) (c .before .before .before .before .before .before .before .before .before .before .before .before .before .before .before .before .before .before .before .before .before .before .before .before .before .before .before .before .before .before .before .before .before .before .before .before .before .before .before .before .before .before .before .before .before .before .args .x) (c .before .before .before .before .before .before .before .before .before .before .before .before .before .before .before .before .before .before .before .before .before .before .before .before .before .before .before .before .before .before .before .before .before .before .before .before .before .before .before .before .before .before .before .before .before .before .args .ip) (c .before .before .before .before .before .before .before .before .before .before .before .before .before .before .before .before .before .before .before .before .before .before .before .before .before .before .before .before .before .before .before .before .before .before .before .before .before .before .before .before .before .before .before .before .before .before .args .exit) (at (c .before .before .before .before .before .before .before .before .before .before .before .before .before .before .before .before .before .before .before .before .before .before .before .before .before .before .before .before .before .before .before .before .before .before .before .before .before .before .before .before .before .before .before .before .before .before .args .height) (c .before .before .before .before .before .before .before .before .before .before .before .before .before .before .before .before .before .before .before .before .before .before .before .before .before .before .before .before .before .before .before .before .before .before .before .before .before .before .before .before .before .before .before .before .before .before .args .slots .now) (c .before .before .before .before .before .before .before .before .before .before .before .before .before .before .before .before .before .before .before .before .before .before .before .before .before .before .before .before .before .before .before .before .before .before .before .before .before .before .before .before .before .before .before .before .before .before .args .places .now)) (c .before .before .before .before .before .before .before .before .before .before .before .before .before .before .before .before .before .before .before .before .before .before .before .before .before .before .before .before .before .before .before .before .before .before .before .before .before .before .before .before .before .before .before .before .before .before .args .heights .now) (c .before .before .before .before .before .before .before .before .before .before .before .before .before .before .before .before .before .before .before .before .before .before .before .before .before .before .before .before .before .before .before .before .before .before .before .before .before .before .before .before .before .before .before .before .before .before .args .blinds .now)
+    (c .before .before .before .before .before .before .before .before .before .before .before .before .before .before .before .before .before .before .before .before .before .before .before .before .before .before .before .before .before .before .before .before .before .before .before .before .before .passes .heights) (c .before .before .before .before .before .before .before .before .before .before .before .before .before .before .before .before .before .before .before .before .before .before .before .before .before .before .before .before .before .before .before .before .before .before .before .before .before .passes .blinds) (at (c .before .before .before .before .before .before .before .before .before .before .before .before .before .before .before .before .before .before .before .before .before .before .before .before .before .before .before .before .before .before .before .before .before .before .before .before .before .before .before .before .before .before .before .before .before .before .args .height) (c .before .before .before .before .before .before .before .before .before .before .before .before .before .before .before .before .before .before .before .before .before .before .before .before .before .before .before .before .before .before .before .before .before .before .before .before .before .passes .head) (c .before .before .before .before .before .before .before .before .before .before .before .before .before .before .before .before .before .before .before .before .before .before .before .before .before .before .before .before .before .before .before .before .before .before .before .before .before .passes .texts)) (c .before .before .before .before .before .before .before .before .before .before .before .before .before .before .before .before .before .before .before .before .before .before .before .before .before .before .before .before .before .before .before .before .before .before .before .before .before .passes .left) (c .before .before .before .before .before .before .before .before .before .before .before .before .before .before .before .before .before .before .before .before .before .before .before .before .before .before .before .before .before .before .before .before .before .before .before .before .before .passes .inv .4) (outcomeIn (c .before .before .before .before .before .before .before .before .before .before .before .before .before .before .before .before .before .before .before .before .before .before .before .before .before .before .before .before .before .before .interp-region .result) (c .before .before .before .before .before .before .before .before .before .before .before .before .before .before .before .before .before .before .before .before .before .before .before .before .before .before .before .before .before .before .interp-region .last .1 .1 .1 .0) (c .before .before .before .before .before .before .before .before .before .before .before .before .before .before .before .before .before .before .before .before .before .before .before .before .before .before .before .before .before .before .interp-region .last .1 .1 .1 .1 .0) (c .before .before .before .before .before .before .before .before .before .before .before .before .before .before .before .before .before .before .before .before .before .before .before .before .before .before .before .before .before .before .interp-region .last .1 .1 .1 .1 .1 .0) (c .before .before .before .before .before .before .before .before .before .before .before .before .before .before .before .before .before .before .before .before .before .before .before .before .before .before .before .before .before .before .interp-region .last .1 .1 .1 .1 .1 .1 .0)) _ _ (breaksIn (record { pending = Nothing; height = 0 }) (c .before .before .before .before .before .before .before .before .before .before .before .before .before .before .before .before .before .before .before .before .before .before .before .before .before .before .before .before .before .before .before .before .before .before .before .before .before .passes .broken) (c .before .before .before .before .before .before .before .before .before .before .before .before .before .before .before .before .before .before .before .before .before .before .before .before .before .before .before .before .before .before .before .before .before .before .before .before .before .passes .held)) refl
+    (c .before .before .before .before .before .before .before .before .before .before .before .before .before .before .before .before .before .before .before .before .before .before .before .before .before .before .before .before .before .before .interp-region .ensures .2 ∙ ap (λ (z : AnyState). full (Visits.chunkIn (c .before .before .before .before .before .before .before .before .before .before .before .before .before .before .before .before .before .before .before .before .before .before .before .before .before .before .before .before .before .before .before .before .before .before .before .before .before .before .before .before .before .before .before .before .before .before .args .t .now) (c .before .before .before .before .before .before .before .before .before .before .before .before .before .before .before .before .before .before .before .before .before .before .before .before .before .before .before .before .before .before .before .before .before .before .before .before .before .before .before .before .before .before .before .before .before .before .args .x)) (c .before .before .before .before .before .before .before .before .before .before .before .before .before .before .before .before .before .before .before .before .before .before .before .before .before .before .before .before .before .before .before .before .before .before .before .before .before .before .before .before .before .before .before .before .before .before .args .ip + 1) (c .before .before .before .before .before .before .before .before .before .before .before .before .before .before .before .before .before .before .before .before .before .before .before .before .before .before .before .before .before .before .before .before .before .before .before .before .before .before .before .before .before .before .before .before .before .before .args .exit - 1) (c .before .before .before .before .before .before .before .before .before .before .before .before .before .before .before .before .before .before .before .before .before .before .before .before .before .before .before .before .before .before .before .before .before .before .before .before .before .before .before .before .before .before .before .before .before .before .args .height) z (Outcomes.breaksOf (c .before .before .before .before .before .before .before .before .before .before .before .before .before .before .before .before .before .before .before .before .before .before .before .before .before .before .before .before .before .before .before .before .before .before .before .before .before .before .before .before .before .before .before .before .before .before .args .x .locals)
+    (breaksIn (record { pending = Nothing; height = 0 }) (c .before .before .before .before .before .before .before .before .before .before .before .before .before .before .before .before .before .before .before .before .before .before .before .before .before .before .before .before .before .before .before .before .before .before .before .before .before .passes .broken) (c .before .before .before .before .before .before .before .before .before .before .before .before .before .before .before .before .before .before .before .before .before .before .before .before .before .before .before .before .before .before .before .before .before .before .before .before .before .passes .held))) (sheetsOf (c .before .before .before .before .before .before .before .before .before .before .before .before .before .before .before .before .before .before .before .before .before .before .before .before .before .before .before .before .before .before .before .before .before .before .before .before .before .passes .heights) (c .before .before .before .before .before .before .before .before .before .before .before .before .before .before .before .before .before .before .before .before .before .before .before .before .before .before .before .before .before .before .before .before .before .before .before .before .before .passes .blinds))) (c .before .before .before .before .before .before .before .before .before .before .before .before .before .before .before .before .before .before .before .before .before .before .before .before .before .before .before .before .before .before .before .before .before .before .before .before .before .passes .inv .3)) (c .before .before .before .before .before .before .before .before .before .before .before .before .before .before .before .before .before .before .before .before .before .before .before .enum-told .given .1) (sym (c .before .before .before .before .before .before .before .before .before .before .before .before .before .before .before .before .before .before .same-stack .ensures) ∙ c .before .before .before .before .before .before .before .before .before .before .before .before .before .before .before .before .before .if1 .taken)
+    (sym (c .before .before .before .before .before .before .before .before .before .before .before .before .covers-locals .ensures 0 0) ∙ c .before .before .before .before .before .before .before .before .before .before .before .if2 .left) (c .before .before .before .before .before .before .before .before .before .before .if3 .left) (at (c .before .before .before .before .before .before .before .before .before .before .before .before .before .before .before .before .before .before .before .before .before .before .before .before .before .before .before .before .before .before .before .before .before .before .before .before .before .before .before .before .before .before .before .before .before .before .args .height) (c .before .before .before .before .before .join-locals .last .0) (c .before .before .before .before .before .join-locals .last .1 .0)) refl
+    (c .before .before .before .before .before .join-locals .ensures .1 (c .before .before .before .before .before .before .before .before .before .before .before .before .before .before .before .before .before .before .before .before .before .before .before .before .before .before .before .before .before .before .before .before .before .before .before .before .before .before .before .before .before .before .before .before .before .before .args .height) (c .before .before .before .before .before .before .before .before .before .before .before .before .before .before .before .before .before .before .before .before .before .before .before .before .before .before .before .before .before .before .before .before .before .before .before .before .before .before .before .before .before .before .before .before .before .before .pre .1 .1 .1 .2)) (c .before .before .before .before .before .before .before .before .before .before .before .before .before .before .before .before .before .before .before .before .before .before .before .before .before .before .before .before .before .before .interp-region .kept .1 .0) (c .before .before .before .before .before .before .before .before .before .before .before .before .before .before .before .before .before .before .before .before .before .before .before .before .before .before .before .before .before .before .interp-region .kept .1 .1 .0))
 
--- src/lib.rt:472:1
+-- src/lib.rt:473:1
 passes-at-same-length-5 : (t : ℕ) → passes-at-lts.Need-same-length-5 (
   copy-reads.Asked,
   copy-reads.Learnt,
@@ -1983,7 +2049,7 @@ passes-at-same-length-5 : (t : ℕ) → passes-at-lts.Need-same-length-5 (
 ) (passes-at-at t) passes-at.Post passes-at-Inv-passes passes-at-μ-passes
 passes-at-same-length-5 t c = c .before .before .before .before .before .before .before .before .before .before .before .before .before .before .interp-region .kept .1 .0 ∙ (c .before .before .before .before .before .before .before .before .before .before .before .before .before .before .before .before .before .before .before .before .before .passes .inv .4) .heights-same
 
--- src/lib.rt:472:1
+-- src/lib.rt:473:1
 passes-at-same-length-6 : (t : ℕ) → passes-at-lts.Need-same-length-6 (
   copy-reads.Asked,
   copy-reads.Learnt,
@@ -2006,7 +2072,7 @@ passes-at-same-length-6 : (t : ℕ) → passes-at-lts.Need-same-length-6 (
 ) (passes-at-at t) passes-at.Post passes-at-Inv-passes passes-at-μ-passes
 passes-at-same-length-6 t c = c .before .before .before .before .before .before .before .before .before .before .before .before .before .before .interp-region .kept .1 .1 .0 ∙ (c .before .before .before .before .before .before .before .before .before .before .before .before .before .before .before .before .before .before .before .before .before .passes .inv .4) .blinds-same
 
--- src/lib.rt:472:1
+-- src/lib.rt:473:1
 passes-at-returns-3 : (t : ℕ) → passes-at-lts.Need-returns-3 (
   copy-reads.Asked,
   copy-reads.Learnt,
@@ -2027,9 +2093,13 @@ passes-at-returns-3 : (t : ℕ) → passes-at-lts.Need-returns-3 (
   join-locals-reads.Asked,
   join-locals-reads.Learnt,
 ) (passes-at-at t) passes-at.Post passes-at-Inv-passes passes-at-μ-passes
-passes-at-returns-3 t c = (c .leave-head .ensures .0, c .before .before .before .before .before .before .before .before .before .before .before .before .before .before .interp-region .ensures .1, c .leave-head .ensures .1 _ ∙ Cycle.pass-no-end (c .before .before .before .before .before .before .before .before .before .before .before .before .before .before .before .before .before .before .before .before .before .before .before .before .before .before .before .before .before .before .args .t .now) (c .before .before .before .before .before .before .before .before .before .before .before .before .before .before .before .before .before .before .before .before .before .before .before .before .before .before .before .before .before .before .args .x) (c .before .before .before .before .before .before .before .before .before .before .before .before .before .before .before .before .before .before .before .before .before .before .before .before .before .before .before .before .before .before .args .ip) (c .before .before .before .before .before .before .before .before .before .before .before .before .before .before .before .before .before .before .before .before .before .before .before .before .before .before .before .before .before .before .args .exit) (at (c .before .before .before .before .before .before .before .before .before .before .before .before .before .before .before .before .before .before .before .before .before .before .before .before .before .before .before .before .before .before .args .height) (c .before .before .before .before .before .before .before .before .before .before .before .before .before .before .before .before .before .before .before .before .before .before .before .before .before .before .before .before .before .before .args .slots .now) (c .before .before .before .before .before .before .before .before .before .before .before .before .before .before .before .before .before .before .before .before .before .before .before .before .before .before .before .before .before .before .args .places .now)) (c .before .before .before .before .before .before .before .before .before .before .before .before .before .before .before .before .before .before .before .before .before .before .before .before .before .before .before .before .before .before .args .heights .now) (c .before .before .before .before .before .before .before .before .before .before .before .before .before .before .before .before .before .before .before .before .before .before .before .before .before .before .before .before .before .before .args .blinds .now) (c .before .before .before .before .before .before .before .before .before .before .before .before .before .before .before .before .before .before .before .before .before .passes .heights) (c .before .before .before .before .before .before .before .before .before .before .before .before .before .before .before .before .before .before .before .before .before .passes .blinds) (at (c .before .before .before .before .before .before .before .before .before .before .before .before .before .before .before .before .before .before .before .before .before .before .before .before .before .before .before .before .before .before .args .height) (c .before .before .before .before .before .before .before .before .before .before .before .before .before .before .before .before .before .before .before .before .before .passes .head) (c .before .before .before .before .before .before .before .before .before .before .before .before .before .before .before .before .before .before .before .before .before .passes .texts)) (c .before .before .before .before .before .before .before .before .before .before .before .before .before .before .before .before .before .before .before .before .before .passes .left) (c .before .before .before .before .before .before .before .before .before .before .before .before .before .before .before .before .before .before .before .before .before .passes .inv .4) (outcomeIn (c .before .before .before .before .before .before .before .before .before .before .before .before .before .before .interp-region .result) (c .before .before .before .before .before .before .before .before .before .before .before .before .before .before .interp-region .last .1 .1 .1 .0) (c .before .before .before .before .before .before .before .before .before .before .before .before .before .before .interp-region .last .1 .1 .1 .1 .0) (c .before .before .before .before .before .before .before .before .before .before .before .before .before .before .interp-region .last .1 .1 .1 .1 .1 .0) (c .before .before .before .before .before .before .before .before .before .before .before .before .before .before .interp-region .last .1 .1 .1 .1 .1 .1 .0)) _ _ (breaksIn (record { pending = Nothing; height = 0 }) (c .before .before .before .before .before .before .before .before .before .before .before .before .before .before .before .before .before .before .before .before .before .passes .broken) (c .before .before .before .before .before .before .before .before .before .before .before .before .before .before .before .before .before .before .before .before .before .passes .held)) refl (c .before .before .before .before .before .before .before .before .before .before .before .before .before .before .interp-region .ensures .2 ∙ ap (λ (z : AnyState). full (Visits.chunkIn (c .before .before .before .before .before .before .before .before .before .before .before .before .before .before .before .before .before .before .before .before .before .before .before .before .before .before .before .before .before .before .args .t .now) (c .before .before .before .before .before .before .before .before .before .before .before .before .before .before .before .before .before .before .before .before .before .before .before .before .before .before .before .before .before .before .args .x)) (c .before .before .before .before .before .before .before .before .before .before .before .before .before .before .before .before .before .before .before .before .before .before .before .before .before .before .before .before .before .before .args .ip + 1) (c .before .before .before .before .before .before .before .before .before .before .before .before .before .before .before .before .before .before .before .before .before .before .before .before .before .before .before .before .before .before .args .exit - 1) (c .before .before .before .before .before .before .before .before .before .before .before .before .before .before .before .before .before .before .before .before .before .before .before .before .before .before .before .before .before .before .args .height) z (Outcomes.breaksOf (c .before .before .before .before .before .before .before .before .before .before .before .before .before .before .before .before .before .before .before .before .before .before .before .before .before .before .before .before .before .before .args .x .locals) (breaksIn (record { pending = Nothing; height = 0 }) (c .before .before .before .before .before .before .before .before .before .before .before .before .before .before .before .before .before .before .before .before .before .passes .broken) (c .before .before .before .before .before .before .before .before .before .before .before .before .before .before .before .before .before .before .before .before .before .passes .held))) (sheetsOf (c .before .before .before .before .before .before .before .before .before .before .before .before .before .before .before .before .before .before .before .before .before .passes .heights) (c .before .before .before .before .before .before .before .before .before .before .before .before .before .before .before .before .before .before .before .before .before .passes .blinds))) (c .before .before .before .before .before .before .before .before .before .before .before .before .before .before .before .before .before .before .before .before .before .passes .inv .3)) (c .before .before .before .before .before .before .before .enum-told2 .given .1), c .leave-head .ensures .2)
+passes-at-returns-3 t c =
+    (c .leave-head .ensures .0, c .before .before .before .before .before .before .before .before .before .before .before .before .before .before .interp-region .ensures .1, c .leave-head .ensures .1 _ ∙ Cycle.pass-no-end (c .before .before .before .before .before .before .before .before .before .before .before .before .before .before .before .before .before .before .before .before .before .before .before .before .before .before .before .before .before .before .args .t .now) (c .before .before .before .before .before .before .before .before .before .before .before .before .before .before .before .before .before .before .before .before .before .before .before .before .before .before .before .before .before .before .args .x) (c .before .before .before .before .before .before .before .before .before .before .before .before .before .before .before .before .before .before .before .before .before .before .before .before .before .before .before .before .before .before .args .ip) (c .before .before .before .before .before .before .before .before .before .before .before .before .before .before .before .before .before .before .before .before .before .before .before .before .before .before .before .before .before .before .args .exit) (at (c .before .before .before .before .before .before .before .before .before .before .before .before .before .before .before .before .before .before .before .before .before .before .before .before .before .before .before .before .before .before .args .height) (c .before .before .before .before .before .before .before .before .before .before .before .before .before .before .before .before .before .before .before .before .before .before .before .before .before .before .before .before .before .before .args .slots .now) (c .before .before .before .before .before .before .before .before .before .before .before .before .before .before .before .before .before .before .before .before .before .before .before .before .before .before .before .before .before .before .args .places .now)) (c .before .before .before .before .before .before .before .before .before .before .before .before .before .before .before .before .before .before .before .before .before .before .before .before .before .before .before .before .before .before .args .heights .now) (c .before .before .before .before .before .before .before .before .before .before .before .before .before .before .before .before .before .before .before .before .before .before .before .before .before .before .before .before .before .before .args .blinds .now)
+    (c .before .before .before .before .before .before .before .before .before .before .before .before .before .before .before .before .before .before .before .before .before .passes .heights) (c .before .before .before .before .before .before .before .before .before .before .before .before .before .before .before .before .before .before .before .before .before .passes .blinds) (at (c .before .before .before .before .before .before .before .before .before .before .before .before .before .before .before .before .before .before .before .before .before .before .before .before .before .before .before .before .before .before .args .height) (c .before .before .before .before .before .before .before .before .before .before .before .before .before .before .before .before .before .before .before .before .before .passes .head) (c .before .before .before .before .before .before .before .before .before .before .before .before .before .before .before .before .before .before .before .before .before .passes .texts)) (c .before .before .before .before .before .before .before .before .before .before .before .before .before .before .before .before .before .before .before .before .before .passes .left) (c .before .before .before .before .before .before .before .before .before .before .before .before .before .before .before .before .before .before .before .before .before .passes .inv .4) (outcomeIn (c .before .before .before .before .before .before .before .before .before .before .before .before .before .before .interp-region .result) (c .before .before .before .before .before .before .before .before .before .before .before .before .before .before .interp-region .last .1 .1 .1 .0) (c .before .before .before .before .before .before .before .before .before .before .before .before .before .before .interp-region .last .1 .1 .1 .1 .0) (c .before .before .before .before .before .before .before .before .before .before .before .before .before .before .interp-region .last .1 .1 .1 .1 .1 .0) (c .before .before .before .before .before .before .before .before .before .before .before .before .before .before .interp-region .last .1 .1 .1 .1 .1 .1 .0)) _ _ (breaksIn (record { pending = Nothing; height = 0 }) (c .before .before .before .before .before .before .before .before .before .before .before .before .before .before .before .before .before .before .before .before .before .passes .broken) (c .before .before .before .before .before .before .before .before .before .before .before .before .before .before .before .before .before .before .before .before .before .passes .held)) refl
+    (c .before .before .before .before .before .before .before .before .before .before .before .before .before .before .interp-region .ensures .2 ∙ ap (λ (z : AnyState). full (Visits.chunkIn (c .before .before .before .before .before .before .before .before .before .before .before .before .before .before .before .before .before .before .before .before .before .before .before .before .before .before .before .before .before .before .args .t .now) (c .before .before .before .before .before .before .before .before .before .before .before .before .before .before .before .before .before .before .before .before .before .before .before .before .before .before .before .before .before .before .args .x)) (c .before .before .before .before .before .before .before .before .before .before .before .before .before .before .before .before .before .before .before .before .before .before .before .before .before .before .before .before .before .before .args .ip + 1) (c .before .before .before .before .before .before .before .before .before .before .before .before .before .before .before .before .before .before .before .before .before .before .before .before .before .before .before .before .before .before .args .exit - 1) (c .before .before .before .before .before .before .before .before .before .before .before .before .before .before .before .before .before .before .before .before .before .before .before .before .before .before .before .before .before .before .args .height) z (Outcomes.breaksOf (c .before .before .before .before .before .before .before .before .before .before .before .before .before .before .before .before .before .before .before .before .before .before .before .before .before .before .before .before .before .before .args .x .locals)
+    (breaksIn (record { pending = Nothing; height = 0 }) (c .before .before .before .before .before .before .before .before .before .before .before .before .before .before .before .before .before .before .before .before .before .passes .broken) (c .before .before .before .before .before .before .before .before .before .before .before .before .before .before .before .before .before .before .before .before .before .passes .held))) (sheetsOf (c .before .before .before .before .before .before .before .before .before .before .before .before .before .before .before .before .before .before .before .before .before .passes .heights) (c .before .before .before .before .before .before .before .before .before .before .before .before .before .before .before .before .before .before .before .before .before .passes .blinds))) (c .before .before .before .before .before .before .before .before .before .before .before .before .before .before .before .before .before .before .before .before .before .passes .inv .3)) (c .before .before .before .before .before .before .before .enum-told2 .given .1), c .leave-head .ensures .2)
 
--- src/lib.rt:472:1
+-- src/lib.rt:473:1
 passes-at-same-length-7 : (t : ℕ) → passes-at-lts.Need-same-length-7 (
   copy-reads.Asked,
   copy-reads.Learnt,
@@ -2052,7 +2122,7 @@ passes-at-same-length-7 : (t : ℕ) → passes-at-lts.Need-same-length-7 (
 ) (passes-at-at t) passes-at.Post passes-at-Inv-passes passes-at-μ-passes
 passes-at-same-length-7 t c = c .before .before .before .before .before .before .before .before .before .before .before .before .before .before .before .before .before .before .before .before .before .before .before .before .interp-region .kept .1 .0 ∙ (c .before .before .before .before .before .before .before .before .before .before .before .before .before .before .before .before .before .before .before .before .before .before .before .before .before .before .before .before .before .before .before .passes .inv .4) .heights-same
 
--- src/lib.rt:472:1
+-- src/lib.rt:473:1
 passes-at-same-length-8 : (t : ℕ) → passes-at-lts.Need-same-length-8 (
   copy-reads.Asked,
   copy-reads.Learnt,
@@ -2075,7 +2145,7 @@ passes-at-same-length-8 : (t : ℕ) → passes-at-lts.Need-same-length-8 (
 ) (passes-at-at t) passes-at.Post passes-at-Inv-passes passes-at-μ-passes
 passes-at-same-length-8 t c = c .before .before .before .before .before .before .before .before .before .before .before .before .before .before .before .before .before .before .before .before .before .before .before .before .interp-region .kept .1 .1 .0 ∙ (c .before .before .before .before .before .before .before .before .before .before .before .before .before .before .before .before .before .before .before .before .before .before .before .before .before .before .before .before .before .before .before .passes .inv .4) .blinds-same
 
--- src/lib.rt:472:1
+-- src/lib.rt:473:1
 passes-at-returns-4 : (t : ℕ) → passes-at-lts.Need-returns-4 (
   copy-reads.Asked,
   copy-reads.Learnt,
@@ -2097,9 +2167,14 @@ passes-at-returns-4 : (t : ℕ) → passes-at-lts.Need-returns-4 (
   join-locals-reads.Learnt,
 ) (passes-at-at t) passes-at.Post passes-at-Inv-passes passes-at-μ-passes
 unfolding covers-all
-passes-at-returns-4 t c = (c .leave-loop .ensures .0, c .before .before .before .before .before .before .before .before .before .before .before .before .before .before .before .before .before .before .before .before .before .before .before .before .interp-region .ensures .1, c .leave-loop .ensures .1 _ ∙ Cycle.pass-stable (c .before .before .before .before .before .before .before .before .before .before .before .before .before .before .before .before .before .before .before .before .before .before .before .before .before .before .before .before .before .before .before .before .before .before .before .before .before .before .before .before .args .t .now) (c .before .before .before .before .before .before .before .before .before .before .before .before .before .before .before .before .before .before .before .before .before .before .before .before .before .before .before .before .before .before .before .before .before .before .before .before .before .before .before .before .args .x) (c .before .before .before .before .before .before .before .before .before .before .before .before .before .before .before .before .before .before .before .before .before .before .before .before .before .before .before .before .before .before .before .before .before .before .before .before .before .before .before .before .args .ip) (c .before .before .before .before .before .before .before .before .before .before .before .before .before .before .before .before .before .before .before .before .before .before .before .before .before .before .before .before .before .before .before .before .before .before .before .before .before .before .before .before .args .exit) (at (c .before .before .before .before .before .before .before .before .before .before .before .before .before .before .before .before .before .before .before .before .before .before .before .before .before .before .before .before .before .before .before .before .before .before .before .before .before .before .before .before .args .height) (c .before .before .before .before .before .before .before .before .before .before .before .before .before .before .before .before .before .before .before .before .before .before .before .before .before .before .before .before .before .before .before .before .before .before .before .before .before .before .before .before .args .slots .now) (c .before .before .before .before .before .before .before .before .before .before .before .before .before .before .before .before .before .before .before .before .before .before .before .before .before .before .before .before .before .before .before .before .before .before .before .before .before .before .before .before .args .places .now)) (c .before .before .before .before .before .before .before .before .before .before .before .before .before .before .before .before .before .before .before .before .before .before .before .before .before .before .before .before .before .before .before .before .before .before .before .before .before .before .before .before .args .heights .now) (c .before .before .before .before .before .before .before .before .before .before .before .before .before .before .before .before .before .before .before .before .before .before .before .before .before .before .before .before .before .before .before .before .before .before .before .before .before .before .before .before .args .blinds .now) (c .before .before .before .before .before .before .before .before .before .before .before .before .before .before .before .before .before .before .before .before .before .before .before .before .before .before .before .before .before .before .before .passes .heights) (c .before .before .before .before .before .before .before .before .before .before .before .before .before .before .before .before .before .before .before .before .before .before .before .before .before .before .before .before .before .before .before .passes .blinds) (at (c .before .before .before .before .before .before .before .before .before .before .before .before .before .before .before .before .before .before .before .before .before .before .before .before .before .before .before .before .before .before .before .before .before .before .before .before .before .before .before .before .args .height) (c .before .before .before .before .before .before .before .before .before .before .before .before .before .before .before .before .before .before .before .before .before .before .before .before .before .before .before .before .before .before .before .passes .head) (c .before .before .before .before .before .before .before .before .before .before .before .before .before .before .before .before .before .before .before .before .before .before .before .before .before .before .before .before .before .before .before .passes .texts)) (c .before .before .before .before .before .before .before .before .before .before .before .before .before .before .before .before .before .before .before .before .before .before .before .before .before .before .before .before .before .before .before .passes .left) (c .before .before .before .before .before .before .before .before .before .before .before .before .before .before .before .before .before .before .before .before .before .before .before .before .before .before .before .before .before .before .before .passes .inv .4) (outcomeIn (c .before .before .before .before .before .before .before .before .before .before .before .before .before .before .before .before .before .before .before .before .before .before .before .before .interp-region .result) (c .before .before .before .before .before .before .before .before .before .before .before .before .before .before .before .before .before .before .before .before .before .before .before .before .interp-region .last .1 .1 .1 .0) (c .before .before .before .before .before .before .before .before .before .before .before .before .before .before .before .before .before .before .before .before .before .before .before .before .interp-region .last .1 .1 .1 .1 .0) (c .before .before .before .before .before .before .before .before .before .before .before .before .before .before .before .before .before .before .before .before .before .before .before .before .interp-region .last .1 .1 .1 .1 .1 .0) (c .before .before .before .before .before .before .before .before .before .before .before .before .before .before .before .before .before .before .before .before .before .before .before .before .interp-region .last .1 .1 .1 .1 .1 .1 .0)) _ _ (breaksIn (record { pending = Nothing; height = 0 }) (c .before .before .before .before .before .before .before .before .before .before .before .before .before .before .before .before .before .before .before .before .before .before .before .before .before .before .before .before .before .before .before .passes .broken) (c .before .before .before .before .before .before .before .before .before .before .before .before .before .before .before .before .before .before .before .before .before .before .before .before .before .before .before .before .before .before .before .passes .held)) refl (c .before .before .before .before .before .before .before .before .before .before .before .before .before .before .before .before .before .before .before .before .before .before .before .before .interp-region .ensures .2 ∙ ap (λ (z : AnyState). full (Visits.chunkIn (c .before .before .before .before .before .before .before .before .before .before .before .before .before .before .before .before .before .before .before .before .before .before .before .before .before .before .before .before .before .before .before .before .before .before .before .before .before .before .before .before .args .t .now) (c .before .before .before .before .before .before .before .before .before .before .before .before .before .before .before .before .before .before .before .before .before .before .before .before .before .before .before .before .before .before .before .before .before .before .before .before .before .before .before .before .args .x)) (c .before .before .before .before .before .before .before .before .before .before .before .before .before .before .before .before .before .before .before .before .before .before .before .before .before .before .before .before .before .before .before .before .before .before .before .before .before .before .before .before .args .ip + 1) (c .before .before .before .before .before .before .before .before .before .before .before .before .before .before .before .before .before .before .before .before .before .before .before .before .before .before .before .before .before .before .before .before .before .before .before .before .before .before .before .before .args .exit - 1) (c .before .before .before .before .before .before .before .before .before .before .before .before .before .before .before .before .before .before .before .before .before .before .before .before .before .before .before .before .before .before .before .before .before .before .before .before .before .before .before .before .args .height) z (Outcomes.breaksOf (c .before .before .before .before .before .before .before .before .before .before .before .before .before .before .before .before .before .before .before .before .before .before .before .before .before .before .before .before .before .before .before .before .before .before .before .before .before .before .before .before .args .x .locals) (breaksIn (record { pending = Nothing; height = 0 }) (c .before .before .before .before .before .before .before .before .before .before .before .before .before .before .before .before .before .before .before .before .before .before .before .before .before .before .before .before .before .before .before .passes .broken) (c .before .before .before .before .before .before .before .before .before .before .before .before .before .before .before .before .before .before .before .before .before .before .before .before .before .before .before .before .before .before .before .passes .held))) (sheetsOf (c .before .before .before .before .before .before .before .before .before .before .before .before .before .before .before .before .before .before .before .before .before .before .before .before .before .before .before .before .before .before .before .passes .heights) (c .before .before .before .before .before .before .before .before .before .before .before .before .before .before .before .before .before .before .before .before .before .before .before .before .before .before .before .before .before .before .before .passes .blinds))) (c .before .before .before .before .before .before .before .before .before .before .before .before .before .before .before .before .before .before .before .before .before .before .before .before .before .before .before .before .before .before .before .passes .inv .3)) (c .before .before .before .before .before .before .before .before .before .before .before .before .before .before .before .before .before .enum-told .given .1) (sym (c .before .before .before .before .before .before .before .before .before .before .before .before .same-stack .ensures) ∙ c .before .before .before .before .before .before .before .before .before .before .before .if1 .taken) (sym (c .before .before .before .before .before .before .covers-locals .ensures 0 0) ∙ c .before .before .before .before .before .if2 .taken), c .leave-loop .ensures .2)
+passes-at-returns-4 t c =
+    (c .leave-loop .ensures .0, c .before .before .before .before .before .before .before .before .before .before .before .before .before .before .before .before .before .before .before .before .before .before .before .before .interp-region .ensures .1, c .leave-loop .ensures .1 _ ∙ Cycle.pass-stable (c .before .before .before .before .before .before .before .before .before .before .before .before .before .before .before .before .before .before .before .before .before .before .before .before .before .before .before .before .before .before .before .before .before .before .before .before .before .before .before .before .args .t .now) (c .before .before .before .before .before .before .before .before .before .before .before .before .before .before .before .before .before .before .before .before .before .before .before .before .before .before .before .before .before .before .before .before .before .before .before .before .before .before .before .before .args .x) (c .before .before .before .before .before .before .before .before .before .before .before .before .before .before .before .before .before .before .before .before .before .before .before .before .before .before .before .before .before .before .before .before .before .before .before .before .before .before .before .before .args .ip) (c .before .before .before .before .before .before .before .before .before .before .before .before .before .before .before .before .before .before .before .before .before .before .before .before .before .before .before .before .before .before .before .before .before .before .before .before .before .before .before .before .args .exit) (at (c .before .before .before .before .before .before .before .before .before .before .before .before .before .before .before .before .before .before .before .before .before .before .before .before .before .before .before .before .before .before .before .before .before .before .before .before .before .before .before .before .args .height) (c .before .before .before .before .before .before .before .before .before .before .before .before .before .before .before .before .before .before .before .before .before .before .before .before .before .before .before .before .before .before .before .before .before .before .before .before .before .before .before .before .args .slots .now) (c .before .before .before .before .before .before .before .before .before .before .before .before .before .before .before .before .before .before .before .before .before .before .before .before .before .before .before .before .before .before .before .before .before .before .before .before .before .before .before .before .args .places .now)) (c .before .before .before .before .before .before .before .before .before .before .before .before .before .before .before .before .before .before .before .before .before .before .before .before .before .before .before .before .before .before .before .before .before .before .before .before .before .before .before .before .args .heights .now) (c .before .before .before .before .before .before .before .before .before .before .before .before .before .before .before .before .before .before .before .before .before .before .before .before .before .before .before .before .before .before .before .before .before .before .before .before .before .before .before .before .args .blinds .now)
+    (c .before .before .before .before .before .before .before .before .before .before .before .before .before .before .before .before .before .before .before .before .before .before .before .before .before .before .before .before .before .before .before .passes .heights) (c .before .before .before .before .before .before .before .before .before .before .before .before .before .before .before .before .before .before .before .before .before .before .before .before .before .before .before .before .before .before .before .passes .blinds) (at (c .before .before .before .before .before .before .before .before .before .before .before .before .before .before .before .before .before .before .before .before .before .before .before .before .before .before .before .before .before .before .before .before .before .before .before .before .before .before .before .before .args .height) (c .before .before .before .before .before .before .before .before .before .before .before .before .before .before .before .before .before .before .before .before .before .before .before .before .before .before .before .before .before .before .before .passes .head) (c .before .before .before .before .before .before .before .before .before .before .before .before .before .before .before .before .before .before .before .before .before .before .before .before .before .before .before .before .before .before .before .passes .texts)) (c .before .before .before .before .before .before .before .before .before .before .before .before .before .before .before .before .before .before .before .before .before .before .before .before .before .before .before .before .before .before .before .passes .left) (c .before .before .before .before .before .before .before .before .before .before .before .before .before .before .before .before .before .before .before .before .before .before .before .before .before .before .before .before .before .before .before .passes .inv .4) (outcomeIn (c .before .before .before .before .before .before .before .before .before .before .before .before .before .before .before .before .before .before .before .before .before .before .before .before .interp-region .result) (c .before .before .before .before .before .before .before .before .before .before .before .before .before .before .before .before .before .before .before .before .before .before .before .before .interp-region .last .1 .1 .1 .0) (c .before .before .before .before .before .before .before .before .before .before .before .before .before .before .before .before .before .before .before .before .before .before .before .before .interp-region .last .1 .1 .1 .1 .0) (c .before .before .before .before .before .before .before .before .before .before .before .before .before .before .before .before .before .before .before .before .before .before .before .before .interp-region .last .1 .1 .1 .1 .1 .0) (c .before .before .before .before .before .before .before .before .before .before .before .before .before .before .before .before .before .before .before .before .before .before .before .before .interp-region .last .1 .1 .1 .1 .1 .1 .0)) _ _ (breaksIn (record { pending = Nothing; height = 0 }) (c .before .before .before .before .before .before .before .before .before .before .before .before .before .before .before .before .before .before .before .before .before .before .before .before .before .before .before .before .before .before .before .passes .broken) (c .before .before .before .before .before .before .before .before .before .before .before .before .before .before .before .before .before .before .before .before .before .before .before .before .before .before .before .before .before .before .before .passes .held)) refl
+    (c .before .before .before .before .before .before .before .before .before .before .before .before .before .before .before .before .before .before .before .before .before .before .before .before .interp-region .ensures .2 ∙ ap (λ (z : AnyState). full (Visits.chunkIn (c .before .before .before .before .before .before .before .before .before .before .before .before .before .before .before .before .before .before .before .before .before .before .before .before .before .before .before .before .before .before .before .before .before .before .before .before .before .before .before .before .args .t .now) (c .before .before .before .before .before .before .before .before .before .before .before .before .before .before .before .before .before .before .before .before .before .before .before .before .before .before .before .before .before .before .before .before .before .before .before .before .before .before .before .before .args .x)) (c .before .before .before .before .before .before .before .before .before .before .before .before .before .before .before .before .before .before .before .before .before .before .before .before .before .before .before .before .before .before .before .before .before .before .before .before .before .before .before .before .args .ip + 1) (c .before .before .before .before .before .before .before .before .before .before .before .before .before .before .before .before .before .before .before .before .before .before .before .before .before .before .before .before .before .before .before .before .before .before .before .before .before .before .before .before .args .exit - 1) (c .before .before .before .before .before .before .before .before .before .before .before .before .before .before .before .before .before .before .before .before .before .before .before .before .before .before .before .before .before .before .before .before .before .before .before .before .before .before .before .before .args .height) z (Outcomes.breaksOf (c .before .before .before .before .before .before .before .before .before .before .before .before .before .before .before .before .before .before .before .before .before .before .before .before .before .before .before .before .before .before .before .before .before .before .before .before .before .before .before .before .args .x .locals)
+    (breaksIn (record { pending = Nothing; height = 0 }) (c .before .before .before .before .before .before .before .before .before .before .before .before .before .before .before .before .before .before .before .before .before .before .before .before .before .before .before .before .before .before .before .passes .broken) (c .before .before .before .before .before .before .before .before .before .before .before .before .before .before .before .before .before .before .before .before .before .before .before .before .before .before .before .before .before .before .before .passes .held))) (sheetsOf (c .before .before .before .before .before .before .before .before .before .before .before .before .before .before .before .before .before .before .before .before .before .before .before .before .before .before .before .before .before .before .before .passes .heights) (c .before .before .before .before .before .before .before .before .before .before .before .before .before .before .before .before .before .before .before .before .before .before .before .before .before .before .before .before .before .before .before .passes .blinds))) (c .before .before .before .before .before .before .before .before .before .before .before .before .before .before .before .before .before .before .before .before .before .before .before .before .before .before .before .before .before .before .before .passes .inv .3)) (c .before .before .before .before .before .before .before .before .before .before .before .before .before .before .before .before .before .enum-told .given .1) (sym (c .before .before .before .before .before .before .before .before .before .before .before .before .same-stack .ensures) ∙ c .before .before .before .before .before .before .before .before .before .before .before .if1 .taken)
+    (sym (c .before .before .before .before .before .before .covers-locals .ensures 0 0) ∙ c .before .before .before .before .before .if2 .taken), c .leave-loop .ensures .2)
 
--- src/lib.rt:472:1
+-- src/lib.rt:473:1
 passes-at-same-length-9 : (t : ℕ) → passes-at-lts.Need-same-length-9 (
   copy-reads.Asked,
   copy-reads.Learnt,
@@ -2122,7 +2197,7 @@ passes-at-same-length-9 : (t : ℕ) → passes-at-lts.Need-same-length-9 (
 ) (passes-at-at t) passes-at.Post passes-at-Inv-passes passes-at-μ-passes
 passes-at-same-length-9 t c = c .before .before .before .before .last-pass .kept .1 .0 ∙ (c .before .before .before .before .before .before .before .before .before .before .before .before .before .before .before .before .before .before .before .before .before .before .before .before .before .before .before .before .before .before .before .before .before .interp-region .kept .1 .0 ∙ (c .before .before .before .before .before .before .before .before .before .before .before .before .before .before .before .before .before .before .before .before .before .before .before .before .before .before .before .before .before .before .before .before .before .before .before .before .before .before .before .before .passes .inv .4) .heights-same)
 
--- src/lib.rt:472:1
+-- src/lib.rt:473:1
 passes-at-same-length-10 : (t : ℕ) → passes-at-lts.Need-same-length-10 (
   copy-reads.Asked,
   copy-reads.Learnt,
@@ -2145,7 +2220,7 @@ passes-at-same-length-10 : (t : ℕ) → passes-at-lts.Need-same-length-10 (
 ) (passes-at-at t) passes-at.Post passes-at-Inv-passes passes-at-μ-passes
 passes-at-same-length-10 t c = c .before .before .before .before .last-pass .kept .1 .1 .0 ∙ (c .before .before .before .before .before .before .before .before .before .before .before .before .before .before .before .before .before .before .before .before .before .before .before .before .before .before .before .before .before .before .before .before .before .interp-region .kept .1 .1 .0 ∙ (c .before .before .before .before .before .before .before .before .before .before .before .before .before .before .before .before .before .before .before .before .before .before .before .before .before .before .before .before .before .before .before .before .before .before .before .before .before .before .before .before .passes .inv .4) .blinds-same)
 
--- src/lib.rt:472:1
+-- src/lib.rt:473:1
 passes-at-returns-5 : (t : ℕ) → passes-at-lts.Need-returns-5 (
   copy-reads.Asked,
   copy-reads.Learnt,
@@ -2167,9 +2242,14 @@ passes-at-returns-5 : (t : ℕ) → passes-at-lts.Need-returns-5 (
   join-locals-reads.Learnt,
 ) (passes-at-at t) passes-at.Post passes-at-Inv-passes passes-at-μ-passes
 unfolding covers-all
-passes-at-returns-5 t c = (c .before .before .before .before .last-pass .ensures .0, c .before .before .before .before .last-pass .ensures .1, c .before .before .before .before .last-pass .ensures .3 ∙ Cycle.pass-last (c .before .before .before .before .before .before .before .before .before .before .before .before .before .before .before .before .before .before .before .before .before .before .before .before .before .before .before .before .before .before .before .before .before .before .before .before .before .before .before .before .before .before .before .before .before .before .before .before .before .args .t .now) (c .before .before .before .before .before .before .before .before .before .before .before .before .before .before .before .before .before .before .before .before .before .before .before .before .before .before .before .before .before .before .before .before .before .before .before .before .before .before .before .before .before .before .before .before .before .before .before .before .before .args .x) (c .before .before .before .before .before .before .before .before .before .before .before .before .before .before .before .before .before .before .before .before .before .before .before .before .before .before .before .before .before .before .before .before .before .before .before .before .before .before .before .before .before .before .before .before .before .before .before .before .before .args .ip) (c .before .before .before .before .before .before .before .before .before .before .before .before .before .before .before .before .before .before .before .before .before .before .before .before .before .before .before .before .before .before .before .before .before .before .before .before .before .before .before .before .before .before .before .before .before .before .before .before .before .args .exit) (at (c .before .before .before .before .before .before .before .before .before .before .before .before .before .before .before .before .before .before .before .before .before .before .before .before .before .before .before .before .before .before .before .before .before .before .before .before .before .before .before .before .before .before .before .before .before .before .before .before .before .args .height) (c .before .before .before .before .before .before .before .before .before .before .before .before .before .before .before .before .before .before .before .before .before .before .before .before .before .before .before .before .before .before .before .before .before .before .before .before .before .before .before .before .before .before .before .before .before .before .before .before .before .args .slots .now) (c .before .before .before .before .before .before .before .before .before .before .before .before .before .before .before .before .before .before .before .before .before .before .before .before .before .before .before .before .before .before .before .before .before .before .before .before .before .before .before .before .before .before .before .before .before .before .before .before .before .args .places .now)) (c .before .before .before .before .before .before .before .before .before .before .before .before .before .before .before .before .before .before .before .before .before .before .before .before .before .before .before .before .before .before .before .before .before .before .before .before .before .before .before .before .before .before .before .before .before .before .before .before .before .args .heights .now) (c .before .before .before .before .before .before .before .before .before .before .before .before .before .before .before .before .before .before .before .before .before .before .before .before .before .before .before .before .before .before .before .before .before .before .before .before .before .before .before .before .before .before .before .before .before .before .before .before .before .args .blinds .now) (c .before .before .before .before .before .before .before .before .before .before .before .before .before .before .before .before .before .before .before .before .before .before .before .before .before .before .before .before .before .before .before .before .before .before .before .before .before .before .before .before .passes .heights) (c .before .before .before .before .before .before .before .before .before .before .before .before .before .before .before .before .before .before .before .before .before .before .before .before .before .before .before .before .before .before .before .before .before .before .before .before .before .before .before .before .passes .blinds) (at (c .before .before .before .before .before .before .before .before .before .before .before .before .before .before .before .before .before .before .before .before .before .before .before .before .before .before .before .before .before .before .before .before .before .before .before .before .before .before .before .before .before .before .before .before .before .before .before .before .before .args .height) (c .before .before .before .before .before .before .before .before .before .before .before .before .before .before .before .before .before .before .before .before .before .before .before .before .before .before .before .before .before .before .before .before .before .before .before .before .before .before .before .before .passes .head) (c .before .before .before .before .before .before .before .before .before .before .before .before .before .before .before .before .before .before .before .before .before .before .before .before .before .before .before .before .before .before .before .before .before .before .before .before .before .before .before .before .passes .texts)) (c .before .before .before .before .before .before .before .before .before .before .before .before .before .before .before .before .before .before .before .before .before .before .before .before .before .before .before .before .before .before .before .before .before .before .before .before .before .before .before .before .passes .left) (c .before .before .before .before .before .before .before .before .before .before .before .before .before .before .before .before .before .before .before .before .before .before .before .before .before .before .before .before .before .before .before .before .before .before .before .before .before .before .before .before .passes .inv .4) (outcomeIn (c .before .before .before .before .before .before .before .before .before .before .before .before .before .before .before .before .before .before .before .before .before .before .before .before .before .before .before .before .before .before .before .before .before .interp-region .result) (c .before .before .before .before .before .before .before .before .before .before .before .before .before .before .before .before .before .before .before .before .before .before .before .before .before .before .before .before .before .before .before .before .before .interp-region .last .1 .1 .1 .0) (c .before .before .before .before .before .before .before .before .before .before .before .before .before .before .before .before .before .before .before .before .before .before .before .before .before .before .before .before .before .before .before .before .before .interp-region .last .1 .1 .1 .1 .0) (c .before .before .before .before .before .before .before .before .before .before .before .before .before .before .before .before .before .before .before .before .before .before .before .before .before .before .before .before .before .before .before .before .before .interp-region .last .1 .1 .1 .1 .1 .0) (c .before .before .before .before .before .before .before .before .before .before .before .before .before .before .before .before .before .before .before .before .before .before .before .before .before .before .before .before .before .before .before .before .before .interp-region .last .1 .1 .1 .1 .1 .1 .0)) _ _ (breaksIn (record { pending = Nothing; height = 0 }) (c .before .before .before .before .before .before .before .before .before .before .before .before .before .before .before .before .before .before .before .before .before .before .before .before .before .before .before .before .before .before .before .before .before .before .before .before .before .before .before .before .passes .broken) (c .before .before .before .before .before .before .before .before .before .before .before .before .before .before .before .before .before .before .before .before .before .before .before .before .before .before .before .before .before .before .before .before .before .before .before .before .before .before .before .before .passes .held)) refl (c .before .before .before .before .before .before .before .before .before .before .before .before .before .before .before .before .before .before .before .before .before .before .before .before .before .before .before .before .before .before .before .before .before .interp-region .ensures .2 ∙ ap (λ (z : AnyState). full (Visits.chunkIn (c .before .before .before .before .before .before .before .before .before .before .before .before .before .before .before .before .before .before .before .before .before .before .before .before .before .before .before .before .before .before .before .before .before .before .before .before .before .before .before .before .before .before .before .before .before .before .before .before .before .args .t .now) (c .before .before .before .before .before .before .before .before .before .before .before .before .before .before .before .before .before .before .before .before .before .before .before .before .before .before .before .before .before .before .before .before .before .before .before .before .before .before .before .before .before .before .before .before .before .before .before .before .before .args .x)) (c .before .before .before .before .before .before .before .before .before .before .before .before .before .before .before .before .before .before .before .before .before .before .before .before .before .before .before .before .before .before .before .before .before .before .before .before .before .before .before .before .before .before .before .before .before .before .before .before .before .args .ip + 1) (c .before .before .before .before .before .before .before .before .before .before .before .before .before .before .before .before .before .before .before .before .before .before .before .before .before .before .before .before .before .before .before .before .before .before .before .before .before .before .before .before .before .before .before .before .before .before .before .before .before .args .exit - 1) (c .before .before .before .before .before .before .before .before .before .before .before .before .before .before .before .before .before .before .before .before .before .before .before .before .before .before .before .before .before .before .before .before .before .before .before .before .before .before .before .before .before .before .before .before .before .before .before .before .before .args .height) z (Outcomes.breaksOf (c .before .before .before .before .before .before .before .before .before .before .before .before .before .before .before .before .before .before .before .before .before .before .before .before .before .before .before .before .before .before .before .before .before .before .before .before .before .before .before .before .before .before .before .before .before .before .before .before .before .args .x .locals) (breaksIn (record { pending = Nothing; height = 0 }) (c .before .before .before .before .before .before .before .before .before .before .before .before .before .before .before .before .before .before .before .before .before .before .before .before .before .before .before .before .before .before .before .before .before .before .before .before .before .before .before .before .passes .broken) (c .before .before .before .before .before .before .before .before .before .before .before .before .before .before .before .before .before .before .before .before .before .before .before .before .before .before .before .before .before .before .before .before .before .before .before .before .before .before .before .before .passes .held))) (sheetsOf (c .before .before .before .before .before .before .before .before .before .before .before .before .before .before .before .before .before .before .before .before .before .before .before .before .before .before .before .before .before .before .before .before .before .before .before .before .before .before .before .before .passes .heights) (c .before .before .before .before .before .before .before .before .before .before .before .before .before .before .before .before .before .before .before .before .before .before .before .before .before .before .before .before .before .before .before .before .before .before .before .before .before .before .before .before .passes .blinds))) (c .before .before .before .before .before .before .before .before .before .before .before .before .before .before .before .before .before .before .before .before .before .before .before .before .before .before .before .before .before .before .before .before .before .before .before .before .before .before .before .before .passes .inv .3)) (c .before .before .before .before .before .before .before .before .before .before .before .before .before .before .before .before .before .before .before .before .before .before .before .before .before .before .enum-told .given .1) (sym (c .before .before .before .before .before .before .before .before .before .before .before .before .before .before .before .before .before .before .before .before .before .same-stack .ensures) ∙ c .before .before .before .before .before .before .before .before .before .before .before .before .before .before .before .before .before .before .before .before .if1 .taken) (sym (c .before .before .before .before .before .before .before .before .before .before .before .before .before .before .before .covers-locals .ensures 0 0) ∙ c .before .before .before .before .before .before .before .before .before .before .before .before .before .before .if2 .left) (c .before .before .before .before .before .before .before .before .before .before .before .before .before .if3 .taken), c .before .before .before .before .last-pass .ensures .4)
+passes-at-returns-5 t c =
+    (c .before .before .before .before .last-pass .ensures .0, c .before .before .before .before .last-pass .ensures .1, c .before .before .before .before .last-pass .ensures .3 ∙ Cycle.pass-last (c .before .before .before .before .before .before .before .before .before .before .before .before .before .before .before .before .before .before .before .before .before .before .before .before .before .before .before .before .before .before .before .before .before .before .before .before .before .before .before .before .before .before .before .before .before .before .before .before .before .args .t .now) (c .before .before .before .before .before .before .before .before .before .before .before .before .before .before .before .before .before .before .before .before .before .before .before .before .before .before .before .before .before .before .before .before .before .before .before .before .before .before .before .before .before .before .before .before .before .before .before .before .before .args .x) (c .before .before .before .before .before .before .before .before .before .before .before .before .before .before .before .before .before .before .before .before .before .before .before .before .before .before .before .before .before .before .before .before .before .before .before .before .before .before .before .before .before .before .before .before .before .before .before .before .before .args .ip) (c .before .before .before .before .before .before .before .before .before .before .before .before .before .before .before .before .before .before .before .before .before .before .before .before .before .before .before .before .before .before .before .before .before .before .before .before .before .before .before .before .before .before .before .before .before .before .before .before .before .args .exit) (at (c .before .before .before .before .before .before .before .before .before .before .before .before .before .before .before .before .before .before .before .before .before .before .before .before .before .before .before .before .before .before .before .before .before .before .before .before .before .before .before .before .before .before .before .before .before .before .before .before .before .args .height) (c .before .before .before .before .before .before .before .before .before .before .before .before .before .before .before .before .before .before .before .before .before .before .before .before .before .before .before .before .before .before .before .before .before .before .before .before .before .before .before .before .before .before .before .before .before .before .before .before .before .args .slots .now) (c .before .before .before .before .before .before .before .before .before .before .before .before .before .before .before .before .before .before .before .before .before .before .before .before .before .before .before .before .before .before .before .before .before .before .before .before .before .before .before .before .before .before .before .before .before .before .before .before .before .args .places .now)) (c .before .before .before .before .before .before .before .before .before .before .before .before .before .before .before .before .before .before .before .before .before .before .before .before .before .before .before .before .before .before .before .before .before .before .before .before .before .before .before .before .before .before .before .before .before .before .before .before .before .args .heights .now) (c .before .before .before .before .before .before .before .before .before .before .before .before .before .before .before .before .before .before .before .before .before .before .before .before .before .before .before .before .before .before .before .before .before .before .before .before .before .before .before .before .before .before .before .before .before .before .before .before .before .args .blinds .now) (c .before .before .before .before .before .before .before .before .before .before .before .before .before .before .before .before .before .before .before .before .before .before .before .before .before .before .before .before .before .before .before .before .before .before .before .before .before .before .before .before .passes .heights)
+    (c .before .before .before .before .before .before .before .before .before .before .before .before .before .before .before .before .before .before .before .before .before .before .before .before .before .before .before .before .before .before .before .before .before .before .before .before .before .before .before .before .passes .blinds) (at (c .before .before .before .before .before .before .before .before .before .before .before .before .before .before .before .before .before .before .before .before .before .before .before .before .before .before .before .before .before .before .before .before .before .before .before .before .before .before .before .before .before .before .before .before .before .before .before .before .before .args .height) (c .before .before .before .before .before .before .before .before .before .before .before .before .before .before .before .before .before .before .before .before .before .before .before .before .before .before .before .before .before .before .before .before .before .before .before .before .before .before .before .before .passes .head) (c .before .before .before .before .before .before .before .before .before .before .before .before .before .before .before .before .before .before .before .before .before .before .before .before .before .before .before .before .before .before .before .before .before .before .before .before .before .before .before .before .passes .texts)) (c .before .before .before .before .before .before .before .before .before .before .before .before .before .before .before .before .before .before .before .before .before .before .before .before .before .before .before .before .before .before .before .before .before .before .before .before .before .before .before .before .passes .left) (c .before .before .before .before .before .before .before .before .before .before .before .before .before .before .before .before .before .before .before .before .before .before .before .before .before .before .before .before .before .before .before .before .before .before .before .before .before .before .before .before .passes .inv .4) (outcomeIn (c .before .before .before .before .before .before .before .before .before .before .before .before .before .before .before .before .before .before .before .before .before .before .before .before .before .before .before .before .before .before .before .before .before .interp-region .result) (c .before .before .before .before .before .before .before .before .before .before .before .before .before .before .before .before .before .before .before .before .before .before .before .before .before .before .before .before .before .before .before .before .before .interp-region .last .1 .1 .1 .0) (c .before .before .before .before .before .before .before .before .before .before .before .before .before .before .before .before .before .before .before .before .before .before .before .before .before .before .before .before .before .before .before .before .before .interp-region .last .1 .1 .1 .1 .0) (c .before .before .before .before .before .before .before .before .before .before .before .before .before .before .before .before .before .before .before .before .before .before .before .before .before .before .before .before .before .before .before .before .before .interp-region .last .1 .1 .1 .1 .1 .0) (c .before .before .before .before .before .before .before .before .before .before .before .before .before .before .before .before .before .before .before .before .before .before .before .before .before .before .before .before .before .before .before .before .before .interp-region .last .1 .1 .1 .1 .1 .1 .0)) _ _ (breaksIn (record { pending = Nothing; height = 0 }) (c .before .before .before .before .before .before .before .before .before .before .before .before .before .before .before .before .before .before .before .before .before .before .before .before .before .before .before .before .before .before .before .before .before .before .before .before .before .before .before .before .passes .broken) (c .before .before .before .before .before .before .before .before .before .before .before .before .before .before .before .before .before .before .before .before .before .before .before .before .before .before .before .before .before .before .before .before .before .before .before .before .before .before .before .before .passes .held)) refl
+    (c .before .before .before .before .before .before .before .before .before .before .before .before .before .before .before .before .before .before .before .before .before .before .before .before .before .before .before .before .before .before .before .before .before .interp-region .ensures .2 ∙ ap (λ (z : AnyState). full (Visits.chunkIn (c .before .before .before .before .before .before .before .before .before .before .before .before .before .before .before .before .before .before .before .before .before .before .before .before .before .before .before .before .before .before .before .before .before .before .before .before .before .before .before .before .before .before .before .before .before .before .before .before .before .args .t .now) (c .before .before .before .before .before .before .before .before .before .before .before .before .before .before .before .before .before .before .before .before .before .before .before .before .before .before .before .before .before .before .before .before .before .before .before .before .before .before .before .before .before .before .before .before .before .before .before .before .before .args .x)) (c .before .before .before .before .before .before .before .before .before .before .before .before .before .before .before .before .before .before .before .before .before .before .before .before .before .before .before .before .before .before .before .before .before .before .before .before .before .before .before .before .before .before .before .before .before .before .before .before .before .args .ip + 1) (c .before .before .before .before .before .before .before .before .before .before .before .before .before .before .before .before .before .before .before .before .before .before .before .before .before .before .before .before .before .before .before .before .before .before .before .before .before .before .before .before .before .before .before .before .before .before .before .before .before .args .exit - 1) (c .before .before .before .before .before .before .before .before .before .before .before .before .before .before .before .before .before .before .before .before .before .before .before .before .before .before .before .before .before .before .before .before .before .before .before .before .before .before .before .before .before .before .before .before .before .before .before .before .before .args .height) z (Outcomes.breaksOf (c .before .before .before .before .before .before .before .before .before .before .before .before .before .before .before .before .before .before .before .before .before .before .before .before .before .before .before .before .before .before .before .before .before .before .before .before .before .before .before .before .before .before .before .before .before .before .before .before .before .args .x .locals)
+    (breaksIn (record { pending = Nothing; height = 0 }) (c .before .before .before .before .before .before .before .before .before .before .before .before .before .before .before .before .before .before .before .before .before .before .before .before .before .before .before .before .before .before .before .before .before .before .before .before .before .before .before .before .passes .broken) (c .before .before .before .before .before .before .before .before .before .before .before .before .before .before .before .before .before .before .before .before .before .before .before .before .before .before .before .before .before .before .before .before .before .before .before .before .before .before .before .before .passes .held))) (sheetsOf (c .before .before .before .before .before .before .before .before .before .before .before .before .before .before .before .before .before .before .before .before .before .before .before .before .before .before .before .before .before .before .before .before .before .before .before .before .before .before .before .before .passes .heights) (c .before .before .before .before .before .before .before .before .before .before .before .before .before .before .before .before .before .before .before .before .before .before .before .before .before .before .before .before .before .before .before .before .before .before .before .before .before .before .before .before .passes .blinds))) (c .before .before .before .before .before .before .before .before .before .before .before .before .before .before .before .before .before .before .before .before .before .before .before .before .before .before .before .before .before .before .before .before .before .before .before .before .before .before .before .before .passes .inv .3)) (c .before .before .before .before .before .before .before .before .before .before .before .before .before .before .before .before .before .before .before .before .before .before .before .before .before .before .enum-told .given .1) (sym (c .before .before .before .before .before .before .before .before .before .before .before .before .before .before .before .before .before .before .before .before .before .same-stack .ensures) ∙ c .before .before .before .before .before .before .before .before .before .before .before .before .before .before .before .before .before .before .before .before .if1 .taken)
+    (sym (c .before .before .before .before .before .before .before .before .before .before .before .before .before .before .before .covers-locals .ensures 0 0) ∙ c .before .before .before .before .before .before .before .before .before .before .before .before .before .before .if2 .left) (c .before .before .before .before .before .before .before .before .before .before .before .before .before .if3 .taken), c .before .before .before .before .last-pass .ensures .4)
 
--- src/lib.rt:363:5
+-- src/lib.rt:364:5
 two-arms-copy-requires : (t : ℕ) → two-arms-lts.Need-copy-requires (
   copy-reads.Asked,
   copy-reads.Learnt,
@@ -2180,7 +2260,7 @@ two-arms-copy-requires : (t : ℕ) → two-arms-lts.Need-copy-requires (
 ) (two-arms-at t) two-arms.Post
 two-arms-copy-requires t c κs = (search needs, c .before .before .before .before .before .before .before .pre .1 .1 .0 .0, c .before .before .before .before .before .before .before .pre .1 .0 .height-low, omega (arith, c .before .before .before .before .before .before .before .pre .1 .0 .placed .of .locals, locals-low (c .before .before .before .before .before .before .before .args .t .now) (c .before .before .before .before .before .before .before .args .x .chunk)))
 
--- src/lib.rt:373:9
+-- src/lib.rt:374:9
 two-arms-add-interp-region : (t : ℕ) → two-arms-lts.Need-add-interp-region (
   copy-reads.Asked,
   copy-reads.Learnt,
@@ -2191,7 +2271,7 @@ two-arms-add-interp-region : (t : ℕ) → two-arms-lts.Need-add-interp-region (
 ) (two-arms-at t) two-arms.Post
 two-arms-add-interp-region t c = search needs
 
--- src/lib.rt:374:9
+-- src/lib.rt:375:9
 two-arms-sub-interp-region : (t : ℕ) → two-arms-lts.Need-sub-interp-region (
   copy-reads.Asked,
   copy-reads.Learnt,
@@ -2202,7 +2282,7 @@ two-arms-sub-interp-region : (t : ℕ) → two-arms-lts.Need-sub-interp-region (
 ) (two-arms-at t) two-arms.Post
 two-arms-sub-interp-region t c = let q = Cycle.two-arms-in (c .before .before .before .before .before .before .before .before .before .before .before .before .before .before .args .t .now) (c .before .before .before .before .before .before .before .before .before .before .before .before .before .before .args .heights .now) (c .before .before .before .before .before .before .before .before .before .before .before .before .before .before .args .blinds .now) (c .before .before .before .before .before .before .before .before .before .before .before .before .before .before .args .x) (c .before .before .before .before .before .before .before .before .before .before .before .before .before .before .args .target) (c .before .before .before .before .before .before .before .before .before .before .before .before .before .before .args .ip) (c .before .before .before .before .before .before .before .before .before .before .before .before .before .before .args .end) (c .before .before .before .before .before .before .before .before .before .before .before .before .before .before .args .floor) _ _ (c .before .before .before .before .before .before .before .before .before .before .before .before .before .before .pre .1 .0) (c .before .before .before .before .before .before .before .before .before .before .before .before .before .before .pre .1 .1 .1 .0) (c .before .before .before .before .before .before .before .before .before .before .before .before .before .before .pre .1 .1 .1 .1) (c .before .before .before .before .before .before .before .before .before .before .before .before .before .before .args .closer) (c .before .before .before .before .before .before .before .before .before .before .before .before .before .before .pre .1 .1 .1 .2) in omega (arith, q .0)
 
--- src/lib.rt:364:9
+-- src/lib.rt:365:9
 two-arms-interp-region-requires : (t : ℕ) → two-arms-lts.Need-interp-region-requires (
   copy-reads.Asked,
   copy-reads.Learnt,
@@ -2211,9 +2291,12 @@ two-arms-interp-region-requires : (t : ℕ) → two-arms-lts.Need-interp-region-
   join-ends-reads.Asked,
   join-ends-reads.Learnt,
 ) (two-arms-at t) two-arms.Post
-two-arms-interp-region-requires t c κs = let q = Cycle.two-arms-in (c .before .before .before .before .before .before .before .before .before .before .before .before .before .before .args .t .now) (c .before .before .before .before .before .before .before .before .before .before .before .before .before .before .args .heights .now) (c .before .before .before .before .before .before .before .before .before .before .before .before .before .before .args .blinds .now) (c .before .before .before .before .before .before .before .before .before .before .before .before .before .before .args .x) (c .before .before .before .before .before .before .before .before .before .before .before .before .before .before .args .target) (c .before .before .before .before .before .before .before .before .before .before .before .before .before .before .args .ip) (c .before .before .before .before .before .before .before .before .before .before .before .before .before .before .args .end) (c .before .before .before .before .before .before .before .before .before .before .before .before .before .before .args .floor) _ _ (c .before .before .before .before .before .before .before .before .before .before .before .before .before .before .pre .1 .0) (c .before .before .before .before .before .before .before .before .before .before .before .before .before .before .pre .1 .1 .1 .0) (c .before .before .before .before .before .before .before .before .before .before .before .before .before .before .pre .1 .1 .1 .1) (c .before .before .before .before .before .before .before .before .before .before .before .before .before .before .args .closer) (c .before .before .before .before .before .before .before .before .before .before .before .before .before .before .pre .1 .1 .1 .2) in (omega (arith, q .0, q .1, q .2, c .before .before .before .before .before .before .before .before .before .before .before .before .before .before .pre .0), (record { placed = c .before .before .before .before .before .before .before .before .before .before .before .before .before .before .pre .1 .0 .placed; from = c .before .before .before .before .before .before .before .before .before .before .before .before .before .before .args .ip + 1; arm = q .3; after = omega arith; before = omega (arith, q .0); floor-low = c .before .before .before .before .before .before .before .before .before .before .before .before .before .before .pre .1 .0 .floor-low; height-low = c .before .before .before .before .before .before .before .before .before .before .before .before .before .before .pre .1 .0 .height-low; breaks-low = c .before .before .before .before .before .before .before .before .before .before .before .before .before .before .pre .1 .0 .breaks-low }, c .before .before .before .before .before .before .before .before .before .before .before .before .before .before .pre .1 .1 .0))
+two-arms-interp-region-requires t c κs =
+    let q = Cycle.two-arms-in (c .before .before .before .before .before .before .before .before .before .before .before .before .before .before .args .t .now) (c .before .before .before .before .before .before .before .before .before .before .before .before .before .before .args .heights .now) (c .before .before .before .before .before .before .before .before .before .before .before .before .before .before .args .blinds .now) (c .before .before .before .before .before .before .before .before .before .before .before .before .before .before .args .x) (c .before .before .before .before .before .before .before .before .before .before .before .before .before .before .args .target) (c .before .before .before .before .before .before .before .before .before .before .before .before .before .before .args .ip) (c .before .before .before .before .before .before .before .before .before .before .before .before .before .before .args .end) (c .before .before .before .before .before .before .before .before .before .before .before .before .before .before .args .floor) _ _ (c .before .before .before .before .before .before .before .before .before .before .before .before .before .before .pre .1 .0) (c .before .before .before .before .before .before .before .before .before .before .before .before .before .before .pre .1 .1 .1 .0) (c .before .before .before .before .before .before .before .before .before .before .before .before .before .before .pre .1 .1 .1 .1) (c .before .before .before .before .before .before .before .before .before .before .before .before .before .before .args .closer) (c .before .before .before .before .before .before .before .before .before .before .before .before .before .before .pre .1 .1 .1 .2) in (omega (arith, q .0,
+    q .1, q .2, c .before .before .before .before .before .before .before .before .before .before .before .before .before .before .pre .0), (record { placed = c .before .before .before .before .before .before .before .before .before .before .before .before .before .before .pre .1 .0 .placed; from = c .before .before .before .before .before .before .before .before .before .before .before .before .before .before .args .ip + 1; arm = q .3; after = omega arith; before = omega (arith, q .0); floor-low =
+    c .before .before .before .before .before .before .before .before .before .before .before .before .before .before .pre .1 .0 .floor-low; height-low = c .before .before .before .before .before .before .before .before .before .before .before .before .before .before .pre .1 .0 .height-low; breaks-low = c .before .before .before .before .before .before .before .before .before .before .before .before .before .before .pre .1 .0 .breaks-low }, c .before .before .before .before .before .before .before .before .before .before .before .before .before .before .pre .1 .1 .0))
 
--- src/lib.rt:383:19
+-- src/lib.rt:384:19
 two-arms-enum-told : (t : ℕ) → two-arms-lts.Need-enum-told (
   copy-reads.Asked,
   copy-reads.Learnt,
@@ -2224,7 +2307,7 @@ two-arms-enum-told : (t : ℕ) → two-arms-lts.Need-enum-told (
 ) (two-arms-at t) two-arms.Post
 two-arms-enum-told t c = search needs
 
--- src/lib.rt:383:19
+-- src/lib.rt:384:19
 two-arms-add-t41 : (t : ℕ) → two-arms-lts.Need-add-t41 (
   copy-reads.Asked,
   copy-reads.Learnt,
@@ -2233,9 +2316,11 @@ two-arms-add-t41 : (t : ℕ) → two-arms-lts.Need-add-t41 (
   join-ends-reads.Asked,
   join-ends-reads.Learnt,
 ) (two-arms-at t) two-arms.Post
-two-arms-add-t41 t c = let q = Cycle.two-arms-in (c .before .before .before .before .before .before .before .before .before .before .before .before .before .before .before .before .before .before .before .before .before .before .args .t .now) (c .before .before .before .before .before .before .before .before .before .before .before .before .before .before .before .before .before .before .before .before .before .before .args .heights .now) (c .before .before .before .before .before .before .before .before .before .before .before .before .before .before .before .before .before .before .before .before .before .before .args .blinds .now) (c .before .before .before .before .before .before .before .before .before .before .before .before .before .before .before .before .before .before .before .before .before .before .args .x) (c .before .before .before .before .before .before .before .before .before .before .before .before .before .before .before .before .before .before .before .before .before .before .args .target) (c .before .before .before .before .before .before .before .before .before .before .before .before .before .before .before .before .before .before .before .before .before .before .args .ip) (c .before .before .before .before .before .before .before .before .before .before .before .before .before .before .before .before .before .before .before .before .before .before .args .end) (c .before .before .before .before .before .before .before .before .before .before .before .before .before .before .before .before .before .before .before .before .before .before .args .floor) _ _ (c .before .before .before .before .before .before .before .before .before .before .before .before .before .before .before .before .before .before .before .before .before .before .pre .1 .0) (c .before .before .before .before .before .before .before .before .before .before .before .before .before .before .before .before .before .before .before .before .before .before .pre .1 .1 .1 .0) (c .before .before .before .before .before .before .before .before .before .before .before .before .before .before .before .before .before .before .before .before .before .before .pre .1 .1 .1 .1) (c .before .before .before .before .before .before .before .before .before .before .before .before .before .before .before .before .before .before .before .before .before .before .args .closer) (c .before .before .before .before .before .before .before .before .before .before .before .before .before .before .before .before .before .before .before .before .before .before .pre .1 .1 .1 .2) in omega (arith, q .2, c .before .before .before .before .before .before .before .before .before .before .before .before .before .before .before .before .before .before .before .before .before .before .fits)
+two-arms-add-t41 t c =
+    let q = Cycle.two-arms-in (c .before .before .before .before .before .before .before .before .before .before .before .before .before .before .before .before .before .before .before .before .before .before .args .t .now) (c .before .before .before .before .before .before .before .before .before .before .before .before .before .before .before .before .before .before .before .before .before .before .args .heights .now) (c .before .before .before .before .before .before .before .before .before .before .before .before .before .before .before .before .before .before .before .before .before .before .args .blinds .now) (c .before .before .before .before .before .before .before .before .before .before .before .before .before .before .before .before .before .before .before .before .before .before .args .x) (c .before .before .before .before .before .before .before .before .before .before .before .before .before .before .before .before .before .before .before .before .before .before .args .target) (c .before .before .before .before .before .before .before .before .before .before .before .before .before .before .before .before .before .before .before .before .before .before .args .ip) (c .before .before .before .before .before .before .before .before .before .before .before .before .before .before .before .before .before .before .before .before .before .before .args .end) (c .before .before .before .before .before .before .before .before .before .before .before .before .before .before .before .before .before .before .before .before .before .before .args .floor) _ _ (c .before .before .before .before .before .before .before .before .before .before .before .before .before .before .before .before .before .before .before .before .before .before .pre .1 .0) (c .before .before .before .before .before .before .before .before .before .before .before .before .before .before .before .before .before .before .before .before .before .before .pre .1 .1 .1 .0) (c .before .before .before .before .before .before .before .before .before .before .before .before .before .before .before .before .before .before .before .before .before .before .pre .1 .1 .1 .1) (c .before .before .before .before .before .before .before .before .before .before .before .before .before .before .before .before .before .before .before .before .before .before .args .closer) (c .before .before .before .before .before .before .before .before .before .before .before .before .before .before .before .before .before .before .before .before .before .before .pre .1 .1 .1 .2) in omega (arith, q .2,
+    c .before .before .before .before .before .before .before .before .before .before .before .before .before .before .before .before .before .before .before .before .before .before .fits)
 
--- src/lib.rt:382:9
+-- src/lib.rt:383:9
 two-arms-same-length : (t : ℕ) → two-arms-lts.Need-same-length (
   copy-reads.Asked,
   copy-reads.Learnt,
@@ -2246,7 +2331,7 @@ two-arms-same-length : (t : ℕ) → two-arms-lts.Need-same-length (
 ) (two-arms-at t) two-arms.Post
 two-arms-same-length t c = search needs
 
--- src/lib.rt:382:9
+-- src/lib.rt:383:9
 two-arms-same-length-2 : (t : ℕ) → two-arms-lts.Need-same-length-2 (
   copy-reads.Asked,
   copy-reads.Learnt,
@@ -2257,7 +2342,7 @@ two-arms-same-length-2 : (t : ℕ) → two-arms-lts.Need-same-length-2 (
 ) (two-arms-at t) two-arms.Post
 two-arms-same-length-2 t c = search needs
 
--- src/lib.rt:382:9
+-- src/lib.rt:383:9
 two-arms-returns : (t : ℕ) → two-arms-lts.Need-returns (
   copy-reads.Asked,
   copy-reads.Learnt,
@@ -2266,9 +2351,12 @@ two-arms-returns : (t : ℕ) → two-arms-lts.Need-returns (
   join-ends-reads.Asked,
   join-ends-reads.Learnt,
 ) (two-arms-at t) two-arms.Post
-two-arms-returns t c = (c .before .before .before .before .before .before .before .interp-region .ensures .0, c .before .before .before .before .before .before .before .interp-region .ensures .1, Cycle.then-refused (c .before .before .before .before .before .before .before .before .before .before .before .before .before .before .before .before .before .before .before .before .before .before .args .t .now) (c .before .before .before .before .before .before .before .before .before .before .before .before .before .before .before .before .before .before .before .before .before .before .args .x) (c .before .before .before .before .before .before .before .before .before .before .before .before .before .before .before .before .before .before .before .before .before .before .args .target) (c .before .before .before .before .before .before .before .before .before .before .before .before .before .before .before .before .before .before .before .before .before .before .args .ip) (c .before .before .before .before .before .before .before .before .before .before .before .before .before .before .before .before .before .before .before .before .before .before .args .end) (c .before .before .before .before .before .before .before .before .before .before .before .before .before .before .before .before .before .before .before .before .before .before .args .floor) (at (c .before .before .before .before .before .before .before .before .before .before .before .before .before .before .before .before .before .before .before .before .before .before .args .height) (c .before .before .before .before .before .before .before .before .before .before .before .before .before .before .before .before .before .before .before .before .before .before .args .slots .now) (c .before .before .before .before .before .before .before .before .before .before .before .before .before .before .before .before .before .before .before .before .before .before .args .places .now)) (breaksIn (c .before .before .before .before .before .before .before .before .before .before .before .before .before .before .before .before .before .before .before .before .before .before .args .b) (c .before .before .before .before .before .before .before .before .before .before .before .before .before .before .before .before .before .before .before .before .before .before .args .broken .now) (c .before .before .before .before .before .before .before .before .before .before .before .before .before .before .before .before .before .before .before .before .before .before .args .held .now)) _ _ (outcomeIn (c .before .before .before .before .before .before .before .interp-region .result) (c .before .before .before .before .before .before .before .interp-region .last .1 .1 .1 .0) (c .before .before .before .before .before .before .before .interp-region .last .1 .1 .1 .1 .0) (c .before .before .before .before .before .before .before .interp-region .last .1 .1 .1 .1 .1 .0) (c .before .before .before .before .before .before .before .interp-region .last .1 .1 .1 .1 .1 .1 .0)) (c .before .before .before .before .before .before .before .before .before .before .before .before .before .before .before .before .before .before .before .before .before .before .args .closer) (c .before .before .before .before .before .before .before .before .before .before .before .before .before .before .before .before .before .before .before .before .before .before .pre .1 .1 .1 .2) (c .before .before .before .before .before .before .before .interp-region .ensures .2) ((c .before .before .before .before .before .before .before .before .before .before .before .before .before .before .before .before .before .before .before .before .before .before .args .closer) + 1) (c .enum-told .given .1), (let q = Cycle.two-arms-in (c .before .before .before .before .before .before .before .before .before .before .before .before .before .before .before .before .before .before .before .before .before .before .args .t .now) (c .before .before .before .before .before .before .before .before .before .before .before .before .before .before .before .before .before .before .before .before .before .before .args .heights .now) (c .before .before .before .before .before .before .before .before .before .before .before .before .before .before .before .before .before .before .before .before .before .before .args .blinds .now) (c .before .before .before .before .before .before .before .before .before .before .before .before .before .before .before .before .before .before .before .before .before .before .args .x) (c .before .before .before .before .before .before .before .before .before .before .before .before .before .before .before .before .before .before .before .before .before .before .args .target) (c .before .before .before .before .before .before .before .before .before .before .before .before .before .before .before .before .before .before .before .before .before .before .args .ip) (c .before .before .before .before .before .before .before .before .before .before .before .before .before .before .before .before .before .before .before .before .before .before .args .end) (c .before .before .before .before .before .before .before .before .before .before .before .before .before .before .before .before .before .before .before .before .before .before .args .floor) _ _ (c .before .before .before .before .before .before .before .before .before .before .before .before .before .before .before .before .before .before .before .before .before .before .pre .1 .0) (c .before .before .before .before .before .before .before .before .before .before .before .before .before .before .before .before .before .before .before .before .before .before .pre .1 .1 .1 .0) (c .before .before .before .before .before .before .before .before .before .before .before .before .before .before .before .before .before .before .before .before .before .before .pre .1 .1 .1 .1) (c .before .before .before .before .before .before .before .before .before .before .before .before .before .before .before .before .before .before .before .before .before .before .args .closer) (c .before .before .before .before .before .before .before .before .before .before .before .before .before .before .before .before .before .before .before .before .before .before .pre .1 .1 .1 .2) in (omega (arith, q .0, q .1), omega (arith, q .2), c .before .before .before .before .before .before .before .interp-region .ensures .3)))
+two-arms-returns t c =
+    (c .before .before .before .before .before .before .before .interp-region .ensures .0, c .before .before .before .before .before .before .before .interp-region .ensures .1, Cycle.then-refused (c .before .before .before .before .before .before .before .before .before .before .before .before .before .before .before .before .before .before .before .before .before .before .args .t .now) (c .before .before .before .before .before .before .before .before .before .before .before .before .before .before .before .before .before .before .before .before .before .before .args .x) (c .before .before .before .before .before .before .before .before .before .before .before .before .before .before .before .before .before .before .before .before .before .before .args .target) (c .before .before .before .before .before .before .before .before .before .before .before .before .before .before .before .before .before .before .before .before .before .before .args .ip) (c .before .before .before .before .before .before .before .before .before .before .before .before .before .before .before .before .before .before .before .before .before .before .args .end) (c .before .before .before .before .before .before .before .before .before .before .before .before .before .before .before .before .before .before .before .before .before .before .args .floor) (at (c .before .before .before .before .before .before .before .before .before .before .before .before .before .before .before .before .before .before .before .before .before .before .args .height) (c .before .before .before .before .before .before .before .before .before .before .before .before .before .before .before .before .before .before .before .before .before .before .args .slots .now) (c .before .before .before .before .before .before .before .before .before .before .before .before .before .before .before .before .before .before .before .before .before .before .args .places .now)) (breaksIn (c .before .before .before .before .before .before .before .before .before .before .before .before .before .before .before .before .before .before .before .before .before .before .args .b) (c .before .before .before .before .before .before .before .before .before .before .before .before .before .before .before .before .before .before .before .before .before .before .args .broken .now) (c .before .before .before .before .before .before .before .before .before .before .before .before .before .before .before .before .before .before .before .before .before .before .args .held .now)) _ _ (outcomeIn (c .before .before .before .before .before .before .before .interp-region .result) (c .before .before .before .before .before .before .before .interp-region .last .1 .1 .1 .0) (c .before .before .before .before .before .before .before .interp-region .last .1 .1 .1 .1 .0) (c .before .before .before .before .before .before .before .interp-region .last .1 .1 .1 .1 .1 .0) (c .before .before .before .before .before .before .before .interp-region .last .1 .1 .1 .1 .1 .1 .0)) (c .before .before .before .before .before .before .before .before .before .before .before .before .before .before .before .before .before .before .before .before .before .before .args .closer)
+    (c .before .before .before .before .before .before .before .before .before .before .before .before .before .before .before .before .before .before .before .before .before .before .pre .1 .1 .1 .2) (c .before .before .before .before .before .before .before .interp-region .ensures .2) ((c .before .before .before .before .before .before .before .before .before .before .before .before .before .before .before .before .before .before .before .before .before .before .args .closer) + 1) (c .enum-told .given .1), (let q = Cycle.two-arms-in (c .before .before .before .before .before .before .before .before .before .before .before .before .before .before .before .before .before .before .before .before .before .before .args .t .now) (c .before .before .before .before .before .before .before .before .before .before .before .before .before .before .before .before .before .before .before .before .before .before .args .heights .now) (c .before .before .before .before .before .before .before .before .before .before .before .before .before .before .before .before .before .before .before .before .before .before .args .blinds .now) (c .before .before .before .before .before .before .before .before .before .before .before .before .before .before .before .before .before .before .before .before .before .before .args .x) (c .before .before .before .before .before .before .before .before .before .before .before .before .before .before .before .before .before .before .before .before .before .before .args .target) (c .before .before .before .before .before .before .before .before .before .before .before .before .before .before .before .before .before .before .before .before .before .before .args .ip) (c .before .before .before .before .before .before .before .before .before .before .before .before .before .before .before .before .before .before .before .before .before .before .args .end)
+    (c .before .before .before .before .before .before .before .before .before .before .before .before .before .before .before .before .before .before .before .before .before .before .args .floor) _ _ (c .before .before .before .before .before .before .before .before .before .before .before .before .before .before .before .before .before .before .before .before .before .before .pre .1 .0) (c .before .before .before .before .before .before .before .before .before .before .before .before .before .before .before .before .before .before .before .before .before .before .pre .1 .1 .1 .0) (c .before .before .before .before .before .before .before .before .before .before .before .before .before .before .before .before .before .before .before .before .before .before .pre .1 .1 .1 .1) (c .before .before .before .before .before .before .before .before .before .before .before .before .before .before .before .before .before .before .before .before .before .before .args .closer) (c .before .before .before .before .before .before .before .before .before .before .before .before .before .before .before .before .before .before .before .before .before .before .pre .1 .1 .1 .2) in (omega (arith, q .0, q .1), omega (arith, q .2), c .before .before .before .before .before .before .before .interp-region .ensures .3)))
 
--- src/lib.rt:387:9
+-- src/lib.rt:388:9
 two-arms-interp-region-requires-2 : (t : ℕ) → two-arms-lts.Need-interp-region-requires-2 (
   copy-reads.Asked,
   copy-reads.Learnt,
@@ -2277,9 +2365,13 @@ two-arms-interp-region-requires-2 : (t : ℕ) → two-arms-lts.Need-interp-regio
   join-ends-reads.Asked,
   join-ends-reads.Learnt,
 ) (two-arms-at t) two-arms.Post
-two-arms-interp-region-requires-2 t c κs = let q = Cycle.two-arms-in (c .before .before .before .before .before .before .before .before .before .before .before .before .before .before .before .before .before .before .before .before .before .before .before .before .before .before .before .args .t .now) (c .before .before .before .before .before .before .before .before .before .before .before .before .before .before .before .before .before .before .before .before .before .before .before .before .before .before .before .args .heights .now) (c .before .before .before .before .before .before .before .before .before .before .before .before .before .before .before .before .before .before .before .before .before .before .before .before .before .before .before .args .blinds .now) (c .before .before .before .before .before .before .before .before .before .before .before .before .before .before .before .before .before .before .before .before .before .before .before .before .before .before .before .args .x) (c .before .before .before .before .before .before .before .before .before .before .before .before .before .before .before .before .before .before .before .before .before .before .before .before .before .before .before .args .target) (c .before .before .before .before .before .before .before .before .before .before .before .before .before .before .before .before .before .before .before .before .before .before .before .before .before .before .before .args .ip) (c .before .before .before .before .before .before .before .before .before .before .before .before .before .before .before .before .before .before .before .before .before .before .before .before .before .before .before .args .end) (c .before .before .before .before .before .before .before .before .before .before .before .before .before .before .before .before .before .before .before .before .before .before .before .before .before .before .before .args .floor) _ _ (c .before .before .before .before .before .before .before .before .before .before .before .before .before .before .before .before .before .before .before .before .before .before .before .before .before .before .before .pre .1 .0) (c .before .before .before .before .before .before .before .before .before .before .before .before .before .before .before .before .before .before .before .before .before .before .before .before .before .before .before .pre .1 .1 .1 .0) (c .before .before .before .before .before .before .before .before .before .before .before .before .before .before .before .before .before .before .before .before .before .before .before .before .before .before .before .pre .1 .1 .1 .1) (c .before .before .before .before .before .before .before .before .before .before .before .before .before .before .before .before .before .before .before .before .before .before .before .before .before .before .before .args .closer) (c .before .before .before .before .before .before .before .before .before .before .before .before .before .before .before .before .before .before .before .before .before .before .before .before .before .before .before .pre .1 .1 .1 .2) in (omega (arith, q .0, q .1, q .2, c .before .before .before .before .before .before .before .before .before .before .before .before .before .before .before .before .before .before .before .before .before .before .before .before .before .before .before .pre .0), (record { placed = Cycle.placed-by (c .before .before .before .before .before .before .before .before .before .before .before .before .before .before .before .before .before .before .before .before .before .before .before .before .before .before .before .args .t .now) (c .before .before .before .before .before .before .before .before .before .before .before .before .before .before .before .before .before .before .before .before .before .before .before .before .before .before .before .args .heights .now) (c .before .before .before .before .before .before .before .before .before .before .before .before .before .before .before .before .before .before .before .before .before .before .before .before .before .before .before .args .blinds .now) _ _ (c .before .before .before .before .before .before .before .before .before .before .before .before .before .before .before .before .before .before .before .before .before .before .before .before .before .before .before .args .x) (c .before .before .before .before .before .before .before .before .before .before .before .before .interp-region .kept .1 .0) (c .before .before .before .before .before .before .before .before .before .before .before .before .interp-region .kept .1 .1 .0) (c .before .before .before .before .before .before .before .before .before .before .before .before .before .before .before .before .before .before .before .before .before .before .before .before .before .before .before .pre .1 .0 .placed); from = c .before .before .before .before .before .before .before .before .before .before .before .before .before .before .before .before .before .before .before .before .before .before .before .before .before .before .before .args .target; arm = q .4; after = omega arith; before = q .1; floor-low = c .before .before .before .before .before .before .before .before .before .before .before .before .before .before .before .before .before .before .before .before .before .before .before .before .before .before .before .pre .1 .0 .floor-low; height-low = c .before .before .before .before .before .before .before .before .before .before .before .before .before .before .before .before .before .before .before .before .before .before .before .before .before .before .before .pre .1 .0 .height-low; breaks-low = c .before .before .before .before .before .before .before .before .before .before .before .before .interp-region .ensures .3 .1 }, (c .before .before .before .before .before .before .before .before .before .before .before .before .before .before .before .before .before .before .before .copy .ensures .0, c .before .before .before .before .before .before .before .before .before .before .before .before .interp-region .ensures .1)))
+two-arms-interp-region-requires-2 t c κs =
+    let q = Cycle.two-arms-in (c .before .before .before .before .before .before .before .before .before .before .before .before .before .before .before .before .before .before .before .before .before .before .before .before .before .before .before .args .t .now) (c .before .before .before .before .before .before .before .before .before .before .before .before .before .before .before .before .before .before .before .before .before .before .before .before .before .before .before .args .heights .now) (c .before .before .before .before .before .before .before .before .before .before .before .before .before .before .before .before .before .before .before .before .before .before .before .before .before .before .before .args .blinds .now) (c .before .before .before .before .before .before .before .before .before .before .before .before .before .before .before .before .before .before .before .before .before .before .before .before .before .before .before .args .x) (c .before .before .before .before .before .before .before .before .before .before .before .before .before .before .before .before .before .before .before .before .before .before .before .before .before .before .before .args .target) (c .before .before .before .before .before .before .before .before .before .before .before .before .before .before .before .before .before .before .before .before .before .before .before .before .before .before .before .args .ip) (c .before .before .before .before .before .before .before .before .before .before .before .before .before .before .before .before .before .before .before .before .before .before .before .before .before .before .before .args .end) (c .before .before .before .before .before .before .before .before .before .before .before .before .before .before .before .before .before .before .before .before .before .before .before .before .before .before .before .args .floor) _ _ (c .before .before .before .before .before .before .before .before .before .before .before .before .before .before .before .before .before .before .before .before .before .before .before .before .before .before .before .pre .1 .0) (c .before .before .before .before .before .before .before .before .before .before .before .before .before .before .before .before .before .before .before .before .before .before .before .before .before .before .before .pre .1 .1 .1 .0) (c .before .before .before .before .before .before .before .before .before .before .before .before .before .before .before .before .before .before .before .before .before .before .before .before .before .before .before .pre .1 .1 .1 .1) (c .before .before .before .before .before .before .before .before .before .before .before .before .before .before .before .before .before .before .before .before .before .before .before .before .before .before .before .args .closer) (c .before .before .before .before .before .before .before .before .before .before .before .before .before .before .before .before .before .before .before .before .before .before .before .before .before .before .before .pre .1 .1 .1 .2) in (omega (arith, q .0,
+    q .1, q .2, c .before .before .before .before .before .before .before .before .before .before .before .before .before .before .before .before .before .before .before .before .before .before .before .before .before .before .before .pre .0), (record { placed = Cycle.placed-by (c .before .before .before .before .before .before .before .before .before .before .before .before .before .before .before .before .before .before .before .before .before .before .before .before .before .before .before .args .t .now) (c .before .before .before .before .before .before .before .before .before .before .before .before .before .before .before .before .before .before .before .before .before .before .before .before .before .before .before .args .heights .now) (c .before .before .before .before .before .before .before .before .before .before .before .before .before .before .before .before .before .before .before .before .before .before .before .before .before .before .before .args .blinds .now) _ _ (c .before .before .before .before .before .before .before .before .before .before .before .before .before .before .before .before .before .before .before .before .before .before .before .before .before .before .before .args .x) (c .before .before .before .before .before .before .before .before .before .before .before .before .interp-region .kept .1 .0) (c .before .before .before .before .before .before .before .before .before .before .before .before .interp-region .kept .1 .1 .0)
+    (c .before .before .before .before .before .before .before .before .before .before .before .before .before .before .before .before .before .before .before .before .before .before .before .before .before .before .before .pre .1 .0 .placed); from = c .before .before .before .before .before .before .before .before .before .before .before .before .before .before .before .before .before .before .before .before .before .before .before .before .before .before .before .args .target; arm = q .4; after = omega arith; before = q .1; floor-low = c .before .before .before .before .before .before .before .before .before .before .before .before .before .before .before .before .before .before .before .before .before .before .before .before .before .before .before .pre .1 .0 .floor-low; height-low = c .before .before .before .before .before .before .before .before .before .before .before .before .before .before .before .before .before .before .before .before .before .before .before .before .before .before .before .pre .1 .0 .height-low;
+    breaks-low = c .before .before .before .before .before .before .before .before .before .before .before .before .interp-region .ensures .3 .1 }, (c .before .before .before .before .before .before .before .before .before .before .before .before .before .before .before .before .before .before .before .copy .ensures .0, c .before .before .before .before .before .before .before .before .before .before .before .before .interp-region .ensures .1)))
 
--- src/lib.rt:406:19
+-- src/lib.rt:407:19
 two-arms-enum-told-2 : (t : ℕ) → two-arms-lts.Need-enum-told-2 (
   copy-reads.Asked,
   copy-reads.Learnt,
@@ -2290,7 +2382,7 @@ two-arms-enum-told-2 : (t : ℕ) → two-arms-lts.Need-enum-told-2 (
 ) (two-arms-at t) two-arms.Post
 two-arms-enum-told-2 t c = search needs
 
--- src/lib.rt:406:19
+-- src/lib.rt:407:19
 two-arms-add-t50 : (t : ℕ) → two-arms-lts.Need-add-t50 (
   copy-reads.Asked,
   copy-reads.Learnt,
@@ -2299,9 +2391,11 @@ two-arms-add-t50 : (t : ℕ) → two-arms-lts.Need-add-t50 (
   join-ends-reads.Asked,
   join-ends-reads.Learnt,
 ) (two-arms-at t) two-arms.Post
-two-arms-add-t50 t c = let q = Cycle.two-arms-in (c .before .before .before .before .before .before .before .before .before .before .before .before .before .before .before .before .before .before .before .before .before .before .before .before .before .before .before .before .before .before .before .before .before .before .before .args .t .now) (c .before .before .before .before .before .before .before .before .before .before .before .before .before .before .before .before .before .before .before .before .before .before .before .before .before .before .before .before .before .before .before .before .before .before .before .args .heights .now) (c .before .before .before .before .before .before .before .before .before .before .before .before .before .before .before .before .before .before .before .before .before .before .before .before .before .before .before .before .before .before .before .before .before .before .before .args .blinds .now) (c .before .before .before .before .before .before .before .before .before .before .before .before .before .before .before .before .before .before .before .before .before .before .before .before .before .before .before .before .before .before .before .before .before .before .before .args .x) (c .before .before .before .before .before .before .before .before .before .before .before .before .before .before .before .before .before .before .before .before .before .before .before .before .before .before .before .before .before .before .before .before .before .before .before .args .target) (c .before .before .before .before .before .before .before .before .before .before .before .before .before .before .before .before .before .before .before .before .before .before .before .before .before .before .before .before .before .before .before .before .before .before .before .args .ip) (c .before .before .before .before .before .before .before .before .before .before .before .before .before .before .before .before .before .before .before .before .before .before .before .before .before .before .before .before .before .before .before .before .before .before .before .args .end) (c .before .before .before .before .before .before .before .before .before .before .before .before .before .before .before .before .before .before .before .before .before .before .before .before .before .before .before .before .before .before .before .before .before .before .before .args .floor) _ _ (c .before .before .before .before .before .before .before .before .before .before .before .before .before .before .before .before .before .before .before .before .before .before .before .before .before .before .before .before .before .before .before .before .before .before .before .pre .1 .0) (c .before .before .before .before .before .before .before .before .before .before .before .before .before .before .before .before .before .before .before .before .before .before .before .before .before .before .before .before .before .before .before .before .before .before .before .pre .1 .1 .1 .0) (c .before .before .before .before .before .before .before .before .before .before .before .before .before .before .before .before .before .before .before .before .before .before .before .before .before .before .before .before .before .before .before .before .before .before .before .pre .1 .1 .1 .1) (c .before .before .before .before .before .before .before .before .before .before .before .before .before .before .before .before .before .before .before .before .before .before .before .before .before .before .before .before .before .before .before .before .before .before .before .args .closer) (c .before .before .before .before .before .before .before .before .before .before .before .before .before .before .before .before .before .before .before .before .before .before .before .before .before .before .before .before .before .before .before .before .before .before .before .pre .1 .1 .1 .2) in omega (arith, q .2, c .before .before .before .before .before .before .before .before .before .before .before .before .before .before .before .before .before .before .before .before .before .before .before .before .before .before .before .before .before .before .before .before .before .before .before .fits)
+two-arms-add-t50 t c =
+    let q = Cycle.two-arms-in (c .before .before .before .before .before .before .before .before .before .before .before .before .before .before .before .before .before .before .before .before .before .before .before .before .before .before .before .before .before .before .before .before .before .before .before .args .t .now) (c .before .before .before .before .before .before .before .before .before .before .before .before .before .before .before .before .before .before .before .before .before .before .before .before .before .before .before .before .before .before .before .before .before .before .before .args .heights .now) (c .before .before .before .before .before .before .before .before .before .before .before .before .before .before .before .before .before .before .before .before .before .before .before .before .before .before .before .before .before .before .before .before .before .before .before .args .blinds .now) (c .before .before .before .before .before .before .before .before .before .before .before .before .before .before .before .before .before .before .before .before .before .before .before .before .before .before .before .before .before .before .before .before .before .before .before .args .x) (c .before .before .before .before .before .before .before .before .before .before .before .before .before .before .before .before .before .before .before .before .before .before .before .before .before .before .before .before .before .before .before .before .before .before .before .args .target) (c .before .before .before .before .before .before .before .before .before .before .before .before .before .before .before .before .before .before .before .before .before .before .before .before .before .before .before .before .before .before .before .before .before .before .before .args .ip) (c .before .before .before .before .before .before .before .before .before .before .before .before .before .before .before .before .before .before .before .before .before .before .before .before .before .before .before .before .before .before .before .before .before .before .before .args .end) (c .before .before .before .before .before .before .before .before .before .before .before .before .before .before .before .before .before .before .before .before .before .before .before .before .before .before .before .before .before .before .before .before .before .before .before .args .floor) _ _ (c .before .before .before .before .before .before .before .before .before .before .before .before .before .before .before .before .before .before .before .before .before .before .before .before .before .before .before .before .before .before .before .before .before .before .before .pre .1 .0) (c .before .before .before .before .before .before .before .before .before .before .before .before .before .before .before .before .before .before .before .before .before .before .before .before .before .before .before .before .before .before .before .before .before .before .before .pre .1 .1 .1 .0) (c .before .before .before .before .before .before .before .before .before .before .before .before .before .before .before .before .before .before .before .before .before .before .before .before .before .before .before .before .before .before .before .before .before .before .before .pre .1 .1 .1 .1) (c .before .before .before .before .before .before .before .before .before .before .before .before .before .before .before .before .before .before .before .before .before .before .before .before .before .before .before .before .before .before .before .before .before .before .before .args .closer) (c .before .before .before .before .before .before .before .before .before .before .before .before .before .before .before .before .before .before .before .before .before .before .before .before .before .before .before .before .before .before .before .before .before .before .before .pre .1 .1 .1 .2) in omega (arith, q .2,
+    c .before .before .before .before .before .before .before .before .before .before .before .before .before .before .before .before .before .before .before .before .before .before .before .before .before .before .before .before .before .before .before .before .before .before .before .fits)
 
--- src/lib.rt:405:9
+-- src/lib.rt:406:9
 two-arms-same-length-3 : (t : ℕ) → two-arms-lts.Need-same-length-3 (
   copy-reads.Asked,
   copy-reads.Learnt,
@@ -2312,7 +2406,7 @@ two-arms-same-length-3 : (t : ℕ) → two-arms-lts.Need-same-length-3 (
 ) (two-arms-at t) two-arms.Post
 two-arms-same-length-3 t c = search needs
 
--- src/lib.rt:405:9
+-- src/lib.rt:406:9
 two-arms-same-length-4 : (t : ℕ) → two-arms-lts.Need-same-length-4 (
   copy-reads.Asked,
   copy-reads.Learnt,
@@ -2323,7 +2417,7 @@ two-arms-same-length-4 : (t : ℕ) → two-arms-lts.Need-same-length-4 (
 ) (two-arms-at t) two-arms.Post
 two-arms-same-length-4 t c = search needs
 
--- src/lib.rt:405:9
+-- src/lib.rt:406:9
 two-arms-returns-2 : (t : ℕ) → two-arms-lts.Need-returns-2 (
   copy-reads.Asked,
   copy-reads.Learnt,
@@ -2332,9 +2426,18 @@ two-arms-returns-2 : (t : ℕ) → two-arms-lts.Need-returns-2 (
   join-ends-reads.Asked,
   join-ends-reads.Learnt,
 ) (two-arms-at t) two-arms.Post
-two-arms-returns-2 t c = (c .before .before .before .before .before .before .before .before .before .before .before .before .before .before .before .before .before .before .before .before .interp-region .ensures .0, c .before .before .before .before .before .before .before .interp-region2 .ensures .1, Cycle.else-refused (c .before .before .before .before .before .before .before .before .before .before .before .before .before .before .before .before .before .before .before .before .before .before .before .before .before .before .before .before .before .before .before .before .before .before .before .args .t .now) (c .before .before .before .before .before .before .before .before .before .before .before .before .before .before .before .before .before .before .before .before .before .before .before .before .before .before .before .before .before .before .before .before .before .before .before .args .x) (c .before .before .before .before .before .before .before .before .before .before .before .before .before .before .before .before .before .before .before .before .before .before .before .before .before .before .before .before .before .before .before .before .before .before .before .args .target) (c .before .before .before .before .before .before .before .before .before .before .before .before .before .before .before .before .before .before .before .before .before .before .before .before .before .before .before .before .before .before .before .before .before .before .before .args .ip) (c .before .before .before .before .before .before .before .before .before .before .before .before .before .before .before .before .before .before .before .before .before .before .before .before .before .before .before .before .before .before .before .before .before .before .before .args .end) (c .before .before .before .before .before .before .before .before .before .before .before .before .before .before .before .before .before .before .before .before .before .before .before .before .before .before .before .before .before .before .before .before .before .before .before .args .floor) (at (c .before .before .before .before .before .before .before .before .before .before .before .before .before .before .before .before .before .before .before .before .before .before .before .before .before .before .before .before .before .before .before .before .before .before .before .args .height) (c .before .before .before .before .before .before .before .before .before .before .before .before .before .before .before .before .before .before .before .before .before .before .before .before .before .before .before .before .before .before .before .before .before .before .before .args .slots .now) (c .before .before .before .before .before .before .before .before .before .before .before .before .before .before .before .before .before .before .before .before .before .before .before .before .before .before .before .before .before .before .before .before .before .before .before .args .places .now)) (breaksIn (c .before .before .before .before .before .before .before .before .before .before .before .before .before .before .before .before .before .before .before .before .before .before .before .before .before .before .before .before .before .before .before .before .before .before .before .args .b) (c .before .before .before .before .before .before .before .before .before .before .before .before .before .before .before .before .before .before .before .before .before .before .before .before .before .before .before .before .before .before .before .before .before .before .before .args .broken .now) (c .before .before .before .before .before .before .before .before .before .before .before .before .before .before .before .before .before .before .before .before .before .before .before .before .before .before .before .before .before .before .before .before .before .before .before .args .held .now)) _ _ (outcomeIn (c .before .before .before .before .before .before .before .before .before .before .before .before .before .before .before .before .before .before .before .before .interp-region .result) (c .before .before .before .before .before .before .before .before .before .before .before .before .before .before .before .before .before .before .before .before .interp-region .last .1 .1 .1 .0) (c .before .before .before .before .before .before .before .before .before .before .before .before .before .before .before .before .before .before .before .before .interp-region .last .1 .1 .1 .1 .0) (c .before .before .before .before .before .before .before .before .before .before .before .before .before .before .before .before .before .before .before .before .interp-region .last .1 .1 .1 .1 .1 .0) (c .before .before .before .before .before .before .before .before .before .before .before .before .before .before .before .before .before .before .before .before .interp-region .last .1 .1 .1 .1 .1 .1 .0)) (c .before .before .before .before .before .before .before .before .before .before .before .before .before .before .before .before .before .before .before .before .before .before .before .before .before .before .before .before .before .before .before .before .before .before .before .args .closer) (c .before .before .before .before .before .before .before .before .before .before .before .before .before .before .before .before .before .before .before .before .before .before .before .before .before .before .before .before .before .before .before .before .before .before .before .pre .1 .1 .1 .2) (c .before .before .before .before .before .before .before .before .before .before .before .before .before .before .before .before .before .before .before .before .interp-region .ensures .2) (Laws.open-by (c .before .before .before .before .before .before .before .before .before .before .before .before .before .before .before .before .before .before .before .before .interp-region .result .flow) (c .before .before .before .before .before .before .before .before .before .before .before .before .before .before .match .keys2)) (outcomeIn (c .before .before .before .before .before .before .before .interp-region2 .result) (c .before .before .before .before .before .before .before .before .before .before .before .before .before .before .before .before .before .before .before .before .interp-region .last .1 .1 .1 .0) (c .before .before .before .before .before .before .before .before .before .before .before .before .before .before .before .before .before .before .before .before .interp-region .last .1 .1 .1 .1 .0) (c .before .before .before .before .before .before .before .interp-region2 .last .1 .1 .1 .1 .1 .0) (c .before .before .before .before .before .before .before .interp-region2 .last .1 .1 .1 .1 .1 .1 .0)) _ (Cycle.refused-same (c .before .before .before .before .before .before .before .before .before .before .before .before .before .before .before .before .before .before .before .before .before .before .before .before .before .before .before .before .before .before .before .before .before .before .before .args .x .locals) _ (outcomeIn (c .before .before .before .before .before .before .before .interp-region2 .result) (c .before .before .before .before .before .before .before .interp-region2 .last .1 .1 .1 .0) (c .before .before .before .before .before .before .before .interp-region2 .last .1 .1 .1 .1 .0) (c .before .before .before .before .before .before .before .interp-region2 .last .1 .1 .1 .1 .1 .0) (c .before .before .before .before .before .before .before .interp-region2 .last .1 .1 .1 .1 .1 .1 .0)) _ (c .enum-told2 .given .1) (c .enum-told2 .given .1) ∙ c .before .before .before .before .before .before .before .interp-region2 .ensures .2 ∙ ap (λ (z : AnyState). full (Visits.chunkIn (c .before .before .before .before .before .before .before .before .before .before .before .before .before .before .before .before .before .before .before .before .before .before .before .before .before .before .before .before .before .before .before .before .before .before .before .args .t .now) (c .before .before .before .before .before .before .before .before .before .before .before .before .before .before .before .before .before .before .before .before .before .before .before .before .before .before .before .before .before .before .before .before .before .before .before .args .x)) (c .before .before .before .before .before .before .before .before .before .before .before .before .before .before .before .before .before .before .before .before .before .before .before .before .before .before .before .before .before .before .before .before .before .before .before .args .target) (c .before .before .before .before .before .before .before .before .before .before .before .before .before .before .before .before .before .before .before .before .before .before .before .before .before .before .before .before .before .before .before .before .before .before .before .args .closer) (c .before .before .before .before .before .before .before .before .before .before .before .before .before .before .before .before .before .before .before .before .before .before .before .before .before .before .before .before .before .before .before .before .before .before .before .args .floor) z (Outcomes.breaksOf (c .before .before .before .before .before .before .before .before .before .before .before .before .before .before .before .before .before .before .before .before .before .before .before .before .before .before .before .before .before .before .before .before .before .before .before .args .x .locals) (breaksIn (c .before .before .before .before .before .before .before .before .before .before .before .before .before .before .before .before .before .before .before .before .interp-region .result .breaks) (c .before .before .before .before .before .before .before .before .before .before .before .before .before .before .before .before .before .before .before .before .interp-region .last .1 .1 .1 .1 .1 .0) (c .before .before .before .before .before .before .before .before .before .before .before .before .before .before .before .before .before .before .before .before .interp-region .last .1 .1 .1 .1 .1 .1 .0))) (sheetsOf (c .before .before .before .before .before .before .before .before .before .before .before .before .before .before .before .before .before .before .before .before .interp-region .last .1 .0) (c .before .before .before .before .before .before .before .before .before .before .before .before .before .before .before .before .before .before .before .before .interp-region .last .1 .1 .0))) (c .before .before .before .before .before .before .before .before .before .before .before .before .before .before .before .before .before .before .before .before .before .before .before .before .before .before .before .copy .ensures .1)) ((c .before .before .before .before .before .before .before .before .before .before .before .before .before .before .before .before .before .before .before .before .before .before .before .before .before .before .before .before .before .before .before .before .before .before .before .args .closer) + 1) (c .enum-told2 .given .1), (let q = Cycle.two-arms-in (c .before .before .before .before .before .before .before .before .before .before .before .before .before .before .before .before .before .before .before .before .before .before .before .before .before .before .before .before .before .before .before .before .before .before .before .args .t .now) (c .before .before .before .before .before .before .before .before .before .before .before .before .before .before .before .before .before .before .before .before .before .before .before .before .before .before .before .before .before .before .before .before .before .before .before .args .heights .now) (c .before .before .before .before .before .before .before .before .before .before .before .before .before .before .before .before .before .before .before .before .before .before .before .before .before .before .before .before .before .before .before .before .before .before .before .args .blinds .now) (c .before .before .before .before .before .before .before .before .before .before .before .before .before .before .before .before .before .before .before .before .before .before .before .before .before .before .before .before .before .before .before .before .before .before .before .args .x) (c .before .before .before .before .before .before .before .before .before .before .before .before .before .before .before .before .before .before .before .before .before .before .before .before .before .before .before .before .before .before .before .before .before .before .before .args .target) (c .before .before .before .before .before .before .before .before .before .before .before .before .before .before .before .before .before .before .before .before .before .before .before .before .before .before .before .before .before .before .before .before .before .before .before .args .ip) (c .before .before .before .before .before .before .before .before .before .before .before .before .before .before .before .before .before .before .before .before .before .before .before .before .before .before .before .before .before .before .before .before .before .before .before .args .end) (c .before .before .before .before .before .before .before .before .before .before .before .before .before .before .before .before .before .before .before .before .before .before .before .before .before .before .before .before .before .before .before .before .before .before .before .args .floor) _ _ (c .before .before .before .before .before .before .before .before .before .before .before .before .before .before .before .before .before .before .before .before .before .before .before .before .before .before .before .before .before .before .before .before .before .before .before .pre .1 .0) (c .before .before .before .before .before .before .before .before .before .before .before .before .before .before .before .before .before .before .before .before .before .before .before .before .before .before .before .before .before .before .before .before .before .before .before .pre .1 .1 .1 .0) (c .before .before .before .before .before .before .before .before .before .before .before .before .before .before .before .before .before .before .before .before .before .before .before .before .before .before .before .before .before .before .before .before .before .before .before .pre .1 .1 .1 .1) (c .before .before .before .before .before .before .before .before .before .before .before .before .before .before .before .before .before .before .before .before .before .before .before .before .before .before .before .before .before .before .before .before .before .before .before .args .closer) (c .before .before .before .before .before .before .before .before .before .before .before .before .before .before .before .before .before .before .before .before .before .before .before .before .before .before .before .before .before .before .before .before .before .before .before .pre .1 .1 .1 .2) in (omega (arith, q .0, q .1), omega (arith, q .2), c .before .before .before .before .before .before .before .interp-region2 .ensures .3)))
+two-arms-returns-2 t c =
+    (c .before .before .before .before .before .before .before .before .before .before .before .before .before .before .before .before .before .before .before .before .interp-region .ensures .0, c .before .before .before .before .before .before .before .interp-region2 .ensures .1, Cycle.else-refused (c .before .before .before .before .before .before .before .before .before .before .before .before .before .before .before .before .before .before .before .before .before .before .before .before .before .before .before .before .before .before .before .before .before .before .before .args .t .now) (c .before .before .before .before .before .before .before .before .before .before .before .before .before .before .before .before .before .before .before .before .before .before .before .before .before .before .before .before .before .before .before .before .before .before .before .args .x) (c .before .before .before .before .before .before .before .before .before .before .before .before .before .before .before .before .before .before .before .before .before .before .before .before .before .before .before .before .before .before .before .before .before .before .before .args .target) (c .before .before .before .before .before .before .before .before .before .before .before .before .before .before .before .before .before .before .before .before .before .before .before .before .before .before .before .before .before .before .before .before .before .before .before .args .ip) (c .before .before .before .before .before .before .before .before .before .before .before .before .before .before .before .before .before .before .before .before .before .before .before .before .before .before .before .before .before .before .before .before .before .before .before .args .end) (c .before .before .before .before .before .before .before .before .before .before .before .before .before .before .before .before .before .before .before .before .before .before .before .before .before .before .before .before .before .before .before .before .before .before .before .args .floor) (at (c .before .before .before .before .before .before .before .before .before .before .before .before .before .before .before .before .before .before .before .before .before .before .before .before .before .before .before .before .before .before .before .before .before .before .before .args .height) (c .before .before .before .before .before .before .before .before .before .before .before .before .before .before .before .before .before .before .before .before .before .before .before .before .before .before .before .before .before .before .before .before .before .before .before .args .slots .now) (c .before .before .before .before .before .before .before .before .before .before .before .before .before .before .before .before .before .before .before .before .before .before .before .before .before .before .before .before .before .before .before .before .before .before .before .args .places .now)) (breaksIn (c .before .before .before .before .before .before .before .before .before .before .before .before .before .before .before .before .before .before .before .before .before .before .before .before .before .before .before .before .before .before .before .before .before .before .before .args .b) (c .before .before .before .before .before .before .before .before .before .before .before .before .before .before .before .before .before .before .before .before .before .before .before .before .before .before .before .before .before .before .before .before .before .before .before .args .broken .now) (c .before .before .before .before .before .before .before .before .before .before .before .before .before .before .before .before .before .before .before .before .before .before .before .before .before .before .before .before .before .before .before .before .before .before .before .args .held .now)) _ _ (outcomeIn (c .before .before .before .before .before .before .before .before .before .before .before .before .before .before .before .before .before .before .before .before .interp-region .result) (c .before .before .before .before .before .before .before .before .before .before .before .before .before .before .before .before .before .before .before .before .interp-region .last .1 .1 .1 .0) (c .before .before .before .before .before .before .before .before .before .before .before .before .before .before .before .before .before .before .before .before .interp-region .last .1 .1 .1 .1 .0) (c .before .before .before .before .before .before .before .before .before .before .before .before .before .before .before .before .before .before .before .before .interp-region .last .1 .1 .1 .1 .1 .0) (c .before .before .before .before .before .before .before .before .before .before .before .before .before .before .before .before .before .before .before .before .interp-region .last .1 .1 .1 .1 .1 .1 .0)) (c .before .before .before .before .before .before .before .before .before .before .before .before .before .before .before .before .before .before .before .before .before .before .before .before .before .before .before .before .before .before .before .before .before .before .before .args .closer)
+    (c .before .before .before .before .before .before .before .before .before .before .before .before .before .before .before .before .before .before .before .before .before .before .before .before .before .before .before .before .before .before .before .before .before .before .before .pre .1 .1 .1 .2) (c .before .before .before .before .before .before .before .before .before .before .before .before .before .before .before .before .before .before .before .before .interp-region .ensures .2) (Laws.open-by (c .before .before .before .before .before .before .before .before .before .before .before .before .before .before .before .before .before .before .before .before .interp-region .result .flow) (c .before .before .before .before .before .before .before .before .before .before .before .before .before .before .match .keys2)) (outcomeIn (c .before .before .before .before .before .before .before .interp-region2 .result)
+    (c .before .before .before .before .before .before .before .before .before .before .before .before .before .before .before .before .before .before .before .before .interp-region .last .1 .1 .1 .0) (c .before .before .before .before .before .before .before .before .before .before .before .before .before .before .before .before .before .before .before .before .interp-region .last .1 .1 .1 .1 .0) (c .before .before .before .before .before .before .before .interp-region2 .last .1 .1 .1 .1 .1 .0) (c .before .before .before .before .before .before .before .interp-region2 .last .1 .1 .1 .1 .1 .1 .0)) _ (Cycle.refused-same
+    (c .before .before .before .before .before .before .before .before .before .before .before .before .before .before .before .before .before .before .before .before .before .before .before .before .before .before .before .before .before .before .before .before .before .before .before .args .x .locals) _ (outcomeIn (c .before .before .before .before .before .before .before .interp-region2 .result) (c .before .before .before .before .before .before .before .interp-region2 .last .1 .1 .1 .0) (c .before .before .before .before .before .before .before .interp-region2 .last .1 .1 .1 .1 .0)
+    (c .before .before .before .before .before .before .before .interp-region2 .last .1 .1 .1 .1 .1 .0) (c .before .before .before .before .before .before .before .interp-region2 .last .1 .1 .1 .1 .1 .1 .0)) _ (c .enum-told2 .given .1) (c .enum-told2 .given .1) ∙
+    c .before .before .before .before .before .before .before .interp-region2 .ensures .2 ∙ ap (λ (z : AnyState). full (Visits.chunkIn (c .before .before .before .before .before .before .before .before .before .before .before .before .before .before .before .before .before .before .before .before .before .before .before .before .before .before .before .before .before .before .before .before .before .before .before .args .t .now) (c .before .before .before .before .before .before .before .before .before .before .before .before .before .before .before .before .before .before .before .before .before .before .before .before .before .before .before .before .before .before .before .before .before .before .before .args .x)) (c .before .before .before .before .before .before .before .before .before .before .before .before .before .before .before .before .before .before .before .before .before .before .before .before .before .before .before .before .before .before .before .before .before .before .before .args .target) (c .before .before .before .before .before .before .before .before .before .before .before .before .before .before .before .before .before .before .before .before .before .before .before .before .before .before .before .before .before .before .before .before .before .before .before .args .closer) (c .before .before .before .before .before .before .before .before .before .before .before .before .before .before .before .before .before .before .before .before .before .before .before .before .before .before .before .before .before .before .before .before .before .before .before .args .floor) z (Outcomes.breaksOf (c .before .before .before .before .before .before .before .before .before .before .before .before .before .before .before .before .before .before .before .before .before .before .before .before .before .before .before .before .before .before .before .before .before .before .before .args .x .locals) (breaksIn
+    (c .before .before .before .before .before .before .before .before .before .before .before .before .before .before .before .before .before .before .before .before .interp-region .result .breaks) (c .before .before .before .before .before .before .before .before .before .before .before .before .before .before .before .before .before .before .before .before .interp-region .last .1 .1 .1 .1 .1 .0) (c .before .before .before .before .before .before .before .before .before .before .before .before .before .before .before .before .before .before .before .before .interp-region .last .1 .1 .1 .1 .1 .1 .0))) (sheetsOf (c .before .before .before .before .before .before .before .before .before .before .before .before .before .before .before .before .before .before .before .before .interp-region .last .1 .0) (c .before .before .before .before .before .before .before .before .before .before .before .before .before .before .before .before .before .before .before .before .interp-region .last .1 .1 .0)))
+    (c .before .before .before .before .before .before .before .before .before .before .before .before .before .before .before .before .before .before .before .before .before .before .before .before .before .before .before .copy .ensures .1)) ((c .before .before .before .before .before .before .before .before .before .before .before .before .before .before .before .before .before .before .before .before .before .before .before .before .before .before .before .before .before .before .before .before .before .before .before .args .closer) + 1) (c .enum-told2 .given .1), (let q = Cycle.two-arms-in (c .before .before .before .before .before .before .before .before .before .before .before .before .before .before .before .before .before .before .before .before .before .before .before .before .before .before .before .before .before .before .before .before .before .before .before .args .t .now) (c .before .before .before .before .before .before .before .before .before .before .before .before .before .before .before .before .before .before .before .before .before .before .before .before .before .before .before .before .before .before .before .before .before .before .before .args .heights .now) (c .before .before .before .before .before .before .before .before .before .before .before .before .before .before .before .before .before .before .before .before .before .before .before .before .before .before .before .before .before .before .before .before .before .before .before .args .blinds .now) (c .before .before .before .before .before .before .before .before .before .before .before .before .before .before .before .before .before .before .before .before .before .before .before .before .before .before .before .before .before .before .before .before .before .before .before .args .x) (c .before .before .before .before .before .before .before .before .before .before .before .before .before .before .before .before .before .before .before .before .before .before .before .before .before .before .before .before .before .before .before .before .before .before .before .args .target) (c .before .before .before .before .before .before .before .before .before .before .before .before .before .before .before .before .before .before .before .before .before .before .before .before .before .before .before .before .before .before .before .before .before .before .before .args .ip) (c .before .before .before .before .before .before .before .before .before .before .before .before .before .before .before .before .before .before .before .before .before .before .before .before .before .before .before .before .before .before .before .before .before .before .before .args .end) (c .before .before .before .before .before .before .before .before .before .before .before .before .before .before .before .before .before .before .before .before .before .before .before .before .before .before .before .before .before .before .before .before .before .before .before .args .floor) _ _ (c .before .before .before .before .before .before .before .before .before .before .before .before .before .before .before .before .before .before .before .before .before .before .before .before .before .before .before .before .before .before .before .before .before .before .before .pre .1 .0)
+    (c .before .before .before .before .before .before .before .before .before .before .before .before .before .before .before .before .before .before .before .before .before .before .before .before .before .before .before .before .before .before .before .before .before .before .before .pre .1 .1 .1 .0) (c .before .before .before .before .before .before .before .before .before .before .before .before .before .before .before .before .before .before .before .before .before .before .before .before .before .before .before .before .before .before .before .before .before .before .before .pre .1 .1 .1 .1) (c .before .before .before .before .before .before .before .before .before .before .before .before .before .before .before .before .before .before .before .before .before .before .before .before .before .before .before .before .before .before .before .before .before .before .before .args .closer) (c .before .before .before .before .before .before .before .before .before .before .before .before .before .before .before .before .before .before .before .before .before .before .before .before .before .before .before .before .before .before .before .before .before .before .before .pre .1 .1 .1 .2) in (omega (arith, q .0, q .1), omega (arith, q .2), c .before .before .before .before .before .before .before .interp-region2 .ensures .3)))
 
--- src/lib.rt:410:9
+-- src/lib.rt:411:9
 two-arms-join-ends-requires : (t : ℕ) → two-arms-lts.Need-join-ends-requires (
   copy-reads.Asked,
   copy-reads.Learnt,
@@ -2343,9 +2446,12 @@ two-arms-join-ends-requires : (t : ℕ) → two-arms-lts.Need-join-ends-requires
   join-ends-reads.Asked,
   join-ends-reads.Learnt,
 ) (two-arms-at t) two-arms.Post
-two-arms-join-ends-requires t c κs = (c .before .before .before .before .before .before .before .before .before .before .before .before .before .before .before .before .before .before .before .before .before .before .before .interp-region .ensures .0, c .before .before .before .before .before .before .before .before .before .before .interp-region2 .ensures .0, c .before .before .before .before .before .before .before .before .before .before .before .before .before .before .before .before .before .before .before .before .before .before .before .interp-region .ensures .3 .0, c .before .before .before .before .before .before .before .before .before .before .interp-region2 .ensures .3 .0, c .before .before .before .before .before .before .before .before .before .before .interp-region2 .ensures .3 .1, omega (arith, c .before .before .before .before .before .before .before .before .before .before .before .before .before .before .before .before .before .before .before .before .before .before .before .before .before .before .before .before .before .before .before .before .before .before .before .before .before .before .pre .1 .0 .placed .of .locals, locals-low (c .before .before .before .before .before .before .before .before .before .before .before .before .before .before .before .before .before .before .before .before .before .before .before .before .before .before .before .before .before .before .before .before .before .before .before .before .before .before .args .t .now) (c .before .before .before .before .before .before .before .before .before .before .before .before .before .before .before .before .before .before .before .before .before .before .before .before .before .before .before .before .before .before .before .before .before .before .before .before .before .before .args .x .chunk)), (Laws.open-by (c .before .before .before .before .before .before .before .before .before .before .before .before .before .before .before .before .before .before .before .before .before .before .before .interp-region .result .flow) (c .before .before .before .before .before .before .before .before .before .before .before .before .before .before .before .before .before .match .keys2)), (Laws.open-by (c .before .before .before .before .before .before .before .before .before .before .interp-region2 .result .flow) (c .before .before .before .before .match2 .keys2)))
+two-arms-join-ends-requires t c κs =
+    (c .before .before .before .before .before .before .before .before .before .before .before .before .before .before .before .before .before .before .before .before .before .before .before .interp-region .ensures .0, c .before .before .before .before .before .before .before .before .before .before .interp-region2 .ensures .0, c .before .before .before .before .before .before .before .before .before .before .before .before .before .before .before .before .before .before .before .before .before .before .before .interp-region .ensures .3 .0, c .before .before .before .before .before .before .before .before .before .before .interp-region2 .ensures .3 .0,
+    c .before .before .before .before .before .before .before .before .before .before .interp-region2 .ensures .3 .1, omega (arith, c .before .before .before .before .before .before .before .before .before .before .before .before .before .before .before .before .before .before .before .before .before .before .before .before .before .before .before .before .before .before .before .before .before .before .before .before .before .before .pre .1 .0 .placed .of .locals, locals-low (c .before .before .before .before .before .before .before .before .before .before .before .before .before .before .before .before .before .before .before .before .before .before .before .before .before .before .before .before .before .before .before .before .before .before .before .before .before .before .args .t .now) (c .before .before .before .before .before .before .before .before .before .before .before .before .before .before .before .before .before .before .before .before .before .before .before .before .before .before .before .before .before .before .before .before .before .before .before .before .before .before .args .x .chunk)), (Laws.open-by (c .before .before .before .before .before .before .before .before .before .before .before .before .before .before .before .before .before .before .before .before .before .before .before .interp-region .result .flow)
+    (c .before .before .before .before .before .before .before .before .before .before .before .before .before .before .before .before .before .match .keys2)), (Laws.open-by (c .before .before .before .before .before .before .before .before .before .before .interp-region2 .result .flow) (c .before .before .before .before .match2 .keys2)))
 
--- src/lib.rt:424:15
+-- src/lib.rt:425:15
 two-arms-add-t39 : (t : ℕ) → two-arms-lts.Need-add-t39 (
   copy-reads.Asked,
   copy-reads.Learnt,
@@ -2354,9 +2460,11 @@ two-arms-add-t39 : (t : ℕ) → two-arms-lts.Need-add-t39 (
   join-ends-reads.Asked,
   join-ends-reads.Learnt,
 ) (two-arms-at t) two-arms.Post
-two-arms-add-t39 t c = let q = Cycle.two-arms-in (c .before .before .before .before .before .before .before .before .before .before .before .before .before .before .before .before .before .before .before .before .before .before .before .before .before .before .before .before .before .before .before .before .before .before .before .before .before .before .before .args .t .now) (c .before .before .before .before .before .before .before .before .before .before .before .before .before .before .before .before .before .before .before .before .before .before .before .before .before .before .before .before .before .before .before .before .before .before .before .before .before .before .before .args .heights .now) (c .before .before .before .before .before .before .before .before .before .before .before .before .before .before .before .before .before .before .before .before .before .before .before .before .before .before .before .before .before .before .before .before .before .before .before .before .before .before .before .args .blinds .now) (c .before .before .before .before .before .before .before .before .before .before .before .before .before .before .before .before .before .before .before .before .before .before .before .before .before .before .before .before .before .before .before .before .before .before .before .before .before .before .before .args .x) (c .before .before .before .before .before .before .before .before .before .before .before .before .before .before .before .before .before .before .before .before .before .before .before .before .before .before .before .before .before .before .before .before .before .before .before .before .before .before .before .args .target) (c .before .before .before .before .before .before .before .before .before .before .before .before .before .before .before .before .before .before .before .before .before .before .before .before .before .before .before .before .before .before .before .before .before .before .before .before .before .before .before .args .ip) (c .before .before .before .before .before .before .before .before .before .before .before .before .before .before .before .before .before .before .before .before .before .before .before .before .before .before .before .before .before .before .before .before .before .before .before .before .before .before .before .args .end) (c .before .before .before .before .before .before .before .before .before .before .before .before .before .before .before .before .before .before .before .before .before .before .before .before .before .before .before .before .before .before .before .before .before .before .before .before .before .before .before .args .floor) _ _ (c .before .before .before .before .before .before .before .before .before .before .before .before .before .before .before .before .before .before .before .before .before .before .before .before .before .before .before .before .before .before .before .before .before .before .before .before .before .before .before .pre .1 .0) (c .before .before .before .before .before .before .before .before .before .before .before .before .before .before .before .before .before .before .before .before .before .before .before .before .before .before .before .before .before .before .before .before .before .before .before .before .before .before .before .pre .1 .1 .1 .0) (c .before .before .before .before .before .before .before .before .before .before .before .before .before .before .before .before .before .before .before .before .before .before .before .before .before .before .before .before .before .before .before .before .before .before .before .before .before .before .before .pre .1 .1 .1 .1) (c .before .before .before .before .before .before .before .before .before .before .before .before .before .before .before .before .before .before .before .before .before .before .before .before .before .before .before .before .before .before .before .before .before .before .before .before .before .before .before .args .closer) (c .before .before .before .before .before .before .before .before .before .before .before .before .before .before .before .before .before .before .before .before .before .before .before .before .before .before .before .before .before .before .before .before .before .before .before .before .before .before .before .pre .1 .1 .1 .2) in omega (arith, q .2, c .before .before .before .before .before .before .before .before .before .before .before .before .before .before .before .before .before .before .before .before .before .before .before .before .before .before .before .before .before .before .before .before .before .before .before .before .before .before .before .fits)
+two-arms-add-t39 t c =
+    let q = Cycle.two-arms-in (c .before .before .before .before .before .before .before .before .before .before .before .before .before .before .before .before .before .before .before .before .before .before .before .before .before .before .before .before .before .before .before .before .before .before .before .before .before .before .before .args .t .now) (c .before .before .before .before .before .before .before .before .before .before .before .before .before .before .before .before .before .before .before .before .before .before .before .before .before .before .before .before .before .before .before .before .before .before .before .before .before .before .before .args .heights .now) (c .before .before .before .before .before .before .before .before .before .before .before .before .before .before .before .before .before .before .before .before .before .before .before .before .before .before .before .before .before .before .before .before .before .before .before .before .before .before .before .args .blinds .now) (c .before .before .before .before .before .before .before .before .before .before .before .before .before .before .before .before .before .before .before .before .before .before .before .before .before .before .before .before .before .before .before .before .before .before .before .before .before .before .before .args .x) (c .before .before .before .before .before .before .before .before .before .before .before .before .before .before .before .before .before .before .before .before .before .before .before .before .before .before .before .before .before .before .before .before .before .before .before .before .before .before .before .args .target) (c .before .before .before .before .before .before .before .before .before .before .before .before .before .before .before .before .before .before .before .before .before .before .before .before .before .before .before .before .before .before .before .before .before .before .before .before .before .before .before .args .ip) (c .before .before .before .before .before .before .before .before .before .before .before .before .before .before .before .before .before .before .before .before .before .before .before .before .before .before .before .before .before .before .before .before .before .before .before .before .before .before .before .args .end) (c .before .before .before .before .before .before .before .before .before .before .before .before .before .before .before .before .before .before .before .before .before .before .before .before .before .before .before .before .before .before .before .before .before .before .before .before .before .before .before .args .floor) _ _ (c .before .before .before .before .before .before .before .before .before .before .before .before .before .before .before .before .before .before .before .before .before .before .before .before .before .before .before .before .before .before .before .before .before .before .before .before .before .before .before .pre .1 .0) (c .before .before .before .before .before .before .before .before .before .before .before .before .before .before .before .before .before .before .before .before .before .before .before .before .before .before .before .before .before .before .before .before .before .before .before .before .before .before .before .pre .1 .1 .1 .0) (c .before .before .before .before .before .before .before .before .before .before .before .before .before .before .before .before .before .before .before .before .before .before .before .before .before .before .before .before .before .before .before .before .before .before .before .before .before .before .before .pre .1 .1 .1 .1) (c .before .before .before .before .before .before .before .before .before .before .before .before .before .before .before .before .before .before .before .before .before .before .before .before .before .before .before .before .before .before .before .before .before .before .before .before .before .before .before .args .closer) (c .before .before .before .before .before .before .before .before .before .before .before .before .before .before .before .before .before .before .before .before .before .before .before .before .before .before .before .before .before .before .before .before .before .before .before .before .before .before .before .pre .1 .1 .1 .2) in omega (arith, q .2,
+    c .before .before .before .before .before .before .before .before .before .before .before .before .before .before .before .before .before .before .before .before .before .before .before .before .before .before .before .before .before .before .before .before .before .before .before .before .before .before .before .fits)
 
--- src/lib.rt:338:1
+-- src/lib.rt:339:1
 two-arms-same-length-5 : (t : ℕ) → two-arms-lts.Need-same-length-5 (
   copy-reads.Asked,
   copy-reads.Learnt,
@@ -2367,7 +2475,7 @@ two-arms-same-length-5 : (t : ℕ) → two-arms-lts.Need-same-length-5 (
 ) (two-arms-at t) two-arms.Post
 two-arms-same-length-5 t c = c .before .before .before .before .before .before .before .before .before .before .before .interp-region2 .kept .1 .0 ∙ c .before .before .before .before .before .before .before .before .before .before .before .before .before .before .before .before .before .before .before .before .before .before .before .before .interp-region .kept .1 .0
 
--- src/lib.rt:338:1
+-- src/lib.rt:339:1
 two-arms-same-length-6 : (t : ℕ) → two-arms-lts.Need-same-length-6 (
   copy-reads.Asked,
   copy-reads.Learnt,
@@ -2378,7 +2486,7 @@ two-arms-same-length-6 : (t : ℕ) → two-arms-lts.Need-same-length-6 (
 ) (two-arms-at t) two-arms.Post
 two-arms-same-length-6 t c = c .before .before .before .before .before .before .before .before .before .before .before .interp-region2 .kept .1 .1 .0 ∙ c .before .before .before .before .before .before .before .before .before .before .before .before .before .before .before .before .before .before .before .before .before .before .before .before .interp-region .kept .1 .1 .0
 
--- src/lib.rt:338:1
+-- src/lib.rt:339:1
 two-arms-returns-3 : (t : ℕ) → two-arms-lts.Need-returns-3 (
   copy-reads.Asked,
   copy-reads.Learnt,
@@ -2387,7 +2495,17 @@ two-arms-returns-3 : (t : ℕ) → two-arms-lts.Need-returns-3 (
   join-ends-reads.Asked,
   join-ends-reads.Learnt,
 ) (two-arms-at t) two-arms.Post
-two-arms-returns-3 t c = (c .join-ends .ensures .0, c .before .before .before .before .before .before .before .before .before .before .before .interp-region2 .ensures .1, Cycle.both-joined (c .before .before .before .before .before .before .before .before .before .before .before .before .before .before .before .before .before .before .before .before .before .before .before .before .before .before .before .before .before .before .before .before .before .before .before .before .before .before .before .args .t .now) (c .before .before .before .before .before .before .before .before .before .before .before .before .before .before .before .before .before .before .before .before .before .before .before .before .before .before .before .before .before .before .before .before .before .before .before .before .before .before .before .args .x) (c .before .before .before .before .before .before .before .before .before .before .before .before .before .before .before .before .before .before .before .before .before .before .before .before .before .before .before .before .before .before .before .before .before .before .before .before .before .before .before .args .target) (c .before .before .before .before .before .before .before .before .before .before .before .before .before .before .before .before .before .before .before .before .before .before .before .before .before .before .before .before .before .before .before .before .before .before .before .before .before .before .before .args .ip) (c .before .before .before .before .before .before .before .before .before .before .before .before .before .before .before .before .before .before .before .before .before .before .before .before .before .before .before .before .before .before .before .before .before .before .before .before .before .before .before .args .end) (c .before .before .before .before .before .before .before .before .before .before .before .before .before .before .before .before .before .before .before .before .before .before .before .before .before .before .before .before .before .before .before .before .before .before .before .before .before .before .before .args .floor) (at (c .before .before .before .before .before .before .before .before .before .before .before .before .before .before .before .before .before .before .before .before .before .before .before .before .before .before .before .before .before .before .before .before .before .before .before .before .before .before .before .args .height) (c .before .before .before .before .before .before .before .before .before .before .before .before .before .before .before .before .before .before .before .before .before .before .before .before .before .before .before .before .before .before .before .before .before .before .before .before .before .before .before .args .slots .now) (c .before .before .before .before .before .before .before .before .before .before .before .before .before .before .before .before .before .before .before .before .before .before .before .before .before .before .before .before .before .before .before .before .before .before .before .before .before .before .before .args .places .now)) (breaksIn (c .before .before .before .before .before .before .before .before .before .before .before .before .before .before .before .before .before .before .before .before .before .before .before .before .before .before .before .before .before .before .before .before .before .before .before .before .before .before .before .args .b) (c .before .before .before .before .before .before .before .before .before .before .before .before .before .before .before .before .before .before .before .before .before .before .before .before .before .before .before .before .before .before .before .before .before .before .before .before .before .before .before .args .broken .now) (c .before .before .before .before .before .before .before .before .before .before .before .before .before .before .before .before .before .before .before .before .before .before .before .before .before .before .before .before .before .before .before .before .before .before .before .before .before .before .before .args .held .now)) _ _ (outcomeIn (c .before .before .before .before .before .before .before .before .before .before .before .before .before .before .before .before .before .before .before .before .before .before .before .before .interp-region .result) (c .before .before .before .before .before .before .before .before .before .before .before .before .before .before .before .before .before .before .before .before .before .before .before .before .interp-region .last .1 .1 .1 .0) (c .before .before .before .before .before .before .before .before .before .before .before .before .before .before .before .before .before .before .before .before .before .before .before .before .interp-region .last .1 .1 .1 .1 .0) (c .before .before .before .before .before .before .before .before .before .before .before .before .before .before .before .before .before .before .before .before .before .before .before .before .interp-region .last .1 .1 .1 .1 .1 .0) (c .before .before .before .before .before .before .before .before .before .before .before .before .before .before .before .before .before .before .before .before .before .before .before .before .interp-region .last .1 .1 .1 .1 .1 .1 .0)) (c .before .before .before .before .before .before .before .before .before .before .before .before .before .before .before .before .before .before .before .before .before .before .before .before .before .before .before .before .before .before .before .before .before .before .before .before .before .before .before .args .closer) (c .before .before .before .before .before .before .before .before .before .before .before .before .before .before .before .before .before .before .before .before .before .before .before .before .before .before .before .before .before .before .before .before .before .before .before .before .before .before .before .pre .1 .1 .1 .2) (c .before .before .before .before .before .before .before .before .before .before .before .before .before .before .before .before .before .before .before .before .before .before .before .before .interp-region .ensures .2) (Laws.open-by (c .before .before .before .before .before .before .before .before .before .before .before .before .before .before .before .before .before .before .before .before .before .before .before .before .interp-region .result .flow) (c .before .before .before .before .before .before .before .before .before .before .before .before .before .before .before .before .before .before .match .keys2)) (outcomeIn (c .before .before .before .before .before .before .before .before .before .before .before .interp-region2 .result) (c .before .before .before .before .before .before .before .before .before .before .before .interp-region2 .last .1 .1 .1 .0) (c .before .before .before .before .before .before .before .before .before .before .before .interp-region2 .last .1 .1 .1 .1 .0) (c .before .before .before .before .before .before .before .before .before .before .before .interp-region2 .last .1 .1 .1 .1 .1 .0) (c .before .before .before .before .before .before .before .before .before .before .before .interp-region2 .last .1 .1 .1 .1 .1 .1 .0)) _ (c .before .before .before .before .before .before .before .before .before .before .before .interp-region2 .ensures .2 ∙ ap (λ (z : AnyState). full (Visits.chunkIn (c .before .before .before .before .before .before .before .before .before .before .before .before .before .before .before .before .before .before .before .before .before .before .before .before .before .before .before .before .before .before .before .before .before .before .before .before .before .before .before .args .t .now) (c .before .before .before .before .before .before .before .before .before .before .before .before .before .before .before .before .before .before .before .before .before .before .before .before .before .before .before .before .before .before .before .before .before .before .before .before .before .before .before .args .x)) (c .before .before .before .before .before .before .before .before .before .before .before .before .before .before .before .before .before .before .before .before .before .before .before .before .before .before .before .before .before .before .before .before .before .before .before .before .before .before .before .args .target) (c .before .before .before .before .before .before .before .before .before .before .before .before .before .before .before .before .before .before .before .before .before .before .before .before .before .before .before .before .before .before .before .before .before .before .before .before .before .before .before .args .closer) (c .before .before .before .before .before .before .before .before .before .before .before .before .before .before .before .before .before .before .before .before .before .before .before .before .before .before .before .before .before .before .before .before .before .before .before .before .before .before .before .args .floor) z (Outcomes.breaksOf (c .before .before .before .before .before .before .before .before .before .before .before .before .before .before .before .before .before .before .before .before .before .before .before .before .before .before .before .before .before .before .before .before .before .before .before .before .before .before .before .args .x .locals) (breaksIn (c .before .before .before .before .before .before .before .before .before .before .before .before .before .before .before .before .before .before .before .before .before .before .before .before .interp-region .result .breaks) (c .before .before .before .before .before .before .before .before .before .before .before .before .before .before .before .before .before .before .before .before .before .before .before .before .interp-region .last .1 .1 .1 .1 .1 .0) (c .before .before .before .before .before .before .before .before .before .before .before .before .before .before .before .before .before .before .before .before .before .before .before .before .interp-region .last .1 .1 .1 .1 .1 .1 .0))) (sheetsOf (c .before .before .before .before .before .before .before .before .before .before .before .before .before .before .before .before .before .before .before .before .before .before .before .before .interp-region .last .1 .0) (c .before .before .before .before .before .before .before .before .before .before .before .before .before .before .before .before .before .before .before .before .before .before .before .before .interp-region .last .1 .1 .0))) (c .before .before .before .before .before .before .before .before .before .before .before .before .before .before .before .before .before .before .before .before .before .before .before .before .before .before .before .before .before .before .before .copy .ensures .1)) (Laws.open-by (c .before .before .before .before .before .before .before .before .before .before .before .interp-region2 .result .flow) (c .before .before .before .before .before .match2 .keys2)) (outcomeIn (c .join-ends .result) (c .join-ends .last .0) (c .join-ends .last .1 .0) (c .before .before .before .before .before .before .before .before .before .before .before .interp-region2 .last .1 .1 .1 .1 .1 .0) (c .before .before .before .before .before .before .before .before .before .before .before .interp-region2 .last .1 .1 .1 .1 .1 .1 .0)) (c .join-ends .ensures .1 (c .before .before .before .before .before .before .before .before .before .before .before .interp-region2 .last .1 .1 .1 .1 .1 .0) (c .before .before .before .before .before .before .before .before .before .before .before .interp-region2 .last .1 .1 .1 .1 .1 .1 .0) _), (let q = Cycle.two-arms-in (c .before .before .before .before .before .before .before .before .before .before .before .before .before .before .before .before .before .before .before .before .before .before .before .before .before .before .before .before .before .before .before .before .before .before .before .before .before .before .before .args .t .now) (c .before .before .before .before .before .before .before .before .before .before .before .before .before .before .before .before .before .before .before .before .before .before .before .before .before .before .before .before .before .before .before .before .before .before .before .before .before .before .before .args .heights .now) (c .before .before .before .before .before .before .before .before .before .before .before .before .before .before .before .before .before .before .before .before .before .before .before .before .before .before .before .before .before .before .before .before .before .before .before .before .before .before .before .args .blinds .now) (c .before .before .before .before .before .before .before .before .before .before .before .before .before .before .before .before .before .before .before .before .before .before .before .before .before .before .before .before .before .before .before .before .before .before .before .before .before .before .before .args .x) (c .before .before .before .before .before .before .before .before .before .before .before .before .before .before .before .before .before .before .before .before .before .before .before .before .before .before .before .before .before .before .before .before .before .before .before .before .before .before .before .args .target) (c .before .before .before .before .before .before .before .before .before .before .before .before .before .before .before .before .before .before .before .before .before .before .before .before .before .before .before .before .before .before .before .before .before .before .before .before .before .before .before .args .ip) (c .before .before .before .before .before .before .before .before .before .before .before .before .before .before .before .before .before .before .before .before .before .before .before .before .before .before .before .before .before .before .before .before .before .before .before .before .before .before .before .args .end) (c .before .before .before .before .before .before .before .before .before .before .before .before .before .before .before .before .before .before .before .before .before .before .before .before .before .before .before .before .before .before .before .before .before .before .before .before .before .before .before .args .floor) _ _ (c .before .before .before .before .before .before .before .before .before .before .before .before .before .before .before .before .before .before .before .before .before .before .before .before .before .before .before .before .before .before .before .before .before .before .before .before .before .before .before .pre .1 .0) (c .before .before .before .before .before .before .before .before .before .before .before .before .before .before .before .before .before .before .before .before .before .before .before .before .before .before .before .before .before .before .before .before .before .before .before .before .before .before .before .pre .1 .1 .1 .0) (c .before .before .before .before .before .before .before .before .before .before .before .before .before .before .before .before .before .before .before .before .before .before .before .before .before .before .before .before .before .before .before .before .before .before .before .before .before .before .before .pre .1 .1 .1 .1) (c .before .before .before .before .before .before .before .before .before .before .before .before .before .before .before .before .before .before .before .before .before .before .before .before .before .before .before .before .before .before .before .before .before .before .before .before .before .before .before .args .closer) (c .before .before .before .before .before .before .before .before .before .before .before .before .before .before .before .before .before .before .before .before .before .before .before .before .before .before .before .before .before .before .before .before .before .before .before .before .before .before .before .pre .1 .1 .1 .2) in (omega (arith, q .0, q .1), omega (arith, q .2), c .join-ends .ensures .2)))
+two-arms-returns-3 t c =
+    (c .join-ends .ensures .0, c .before .before .before .before .before .before .before .before .before .before .before .interp-region2 .ensures .1, Cycle.both-joined (c .before .before .before .before .before .before .before .before .before .before .before .before .before .before .before .before .before .before .before .before .before .before .before .before .before .before .before .before .before .before .before .before .before .before .before .before .before .before .before .args .t .now) (c .before .before .before .before .before .before .before .before .before .before .before .before .before .before .before .before .before .before .before .before .before .before .before .before .before .before .before .before .before .before .before .before .before .before .before .before .before .before .before .args .x) (c .before .before .before .before .before .before .before .before .before .before .before .before .before .before .before .before .before .before .before .before .before .before .before .before .before .before .before .before .before .before .before .before .before .before .before .before .before .before .before .args .target) (c .before .before .before .before .before .before .before .before .before .before .before .before .before .before .before .before .before .before .before .before .before .before .before .before .before .before .before .before .before .before .before .before .before .before .before .before .before .before .before .args .ip) (c .before .before .before .before .before .before .before .before .before .before .before .before .before .before .before .before .before .before .before .before .before .before .before .before .before .before .before .before .before .before .before .before .before .before .before .before .before .before .before .args .end) (c .before .before .before .before .before .before .before .before .before .before .before .before .before .before .before .before .before .before .before .before .before .before .before .before .before .before .before .before .before .before .before .before .before .before .before .before .before .before .before .args .floor) (at (c .before .before .before .before .before .before .before .before .before .before .before .before .before .before .before .before .before .before .before .before .before .before .before .before .before .before .before .before .before .before .before .before .before .before .before .before .before .before .before .args .height) (c .before .before .before .before .before .before .before .before .before .before .before .before .before .before .before .before .before .before .before .before .before .before .before .before .before .before .before .before .before .before .before .before .before .before .before .before .before .before .before .args .slots .now) (c .before .before .before .before .before .before .before .before .before .before .before .before .before .before .before .before .before .before .before .before .before .before .before .before .before .before .before .before .before .before .before .before .before .before .before .before .before .before .before .args .places .now)) (breaksIn (c .before .before .before .before .before .before .before .before .before .before .before .before .before .before .before .before .before .before .before .before .before .before .before .before .before .before .before .before .before .before .before .before .before .before .before .before .before .before .before .args .b) (c .before .before .before .before .before .before .before .before .before .before .before .before .before .before .before .before .before .before .before .before .before .before .before .before .before .before .before .before .before .before .before .before .before .before .before .before .before .before .before .args .broken .now) (c .before .before .before .before .before .before .before .before .before .before .before .before .before .before .before .before .before .before .before .before .before .before .before .before .before .before .before .before .before .before .before .before .before .before .before .before .before .before .before .args .held .now)) _ _ (outcomeIn (c .before .before .before .before .before .before .before .before .before .before .before .before .before .before .before .before .before .before .before .before .before .before .before .before .interp-region .result) (c .before .before .before .before .before .before .before .before .before .before .before .before .before .before .before .before .before .before .before .before .before .before .before .before .interp-region .last .1 .1 .1 .0) (c .before .before .before .before .before .before .before .before .before .before .before .before .before .before .before .before .before .before .before .before .before .before .before .before .interp-region .last .1 .1 .1 .1 .0) (c .before .before .before .before .before .before .before .before .before .before .before .before .before .before .before .before .before .before .before .before .before .before .before .before .interp-region .last .1 .1 .1 .1 .1 .0) (c .before .before .before .before .before .before .before .before .before .before .before .before .before .before .before .before .before .before .before .before .before .before .before .before .interp-region .last .1 .1 .1 .1 .1 .1 .0)) (c .before .before .before .before .before .before .before .before .before .before .before .before .before .before .before .before .before .before .before .before .before .before .before .before .before .before .before .before .before .before .before .before .before .before .before .before .before .before .before .args .closer)
+    (c .before .before .before .before .before .before .before .before .before .before .before .before .before .before .before .before .before .before .before .before .before .before .before .before .before .before .before .before .before .before .before .before .before .before .before .before .before .before .before .pre .1 .1 .1 .2) (c .before .before .before .before .before .before .before .before .before .before .before .before .before .before .before .before .before .before .before .before .before .before .before .before .interp-region .ensures .2) (Laws.open-by (c .before .before .before .before .before .before .before .before .before .before .before .before .before .before .before .before .before .before .before .before .before .before .before .before .interp-region .result .flow) (c .before .before .before .before .before .before .before .before .before .before .before .before .before .before .before .before .before .before .match .keys2)) (outcomeIn (c .before .before .before .before .before .before .before .before .before .before .before .interp-region2 .result)
+    (c .before .before .before .before .before .before .before .before .before .before .before .interp-region2 .last .1 .1 .1 .0) (c .before .before .before .before .before .before .before .before .before .before .before .interp-region2 .last .1 .1 .1 .1 .0) (c .before .before .before .before .before .before .before .before .before .before .before .interp-region2 .last .1 .1 .1 .1 .1 .0)
+    (c .before .before .before .before .before .before .before .before .before .before .before .interp-region2 .last .1 .1 .1 .1 .1 .1 .0)) _ (c .before .before .before .before .before .before .before .before .before .before .before .interp-region2 .ensures .2 ∙ ap (λ (z : AnyState). full (Visits.chunkIn (c .before .before .before .before .before .before .before .before .before .before .before .before .before .before .before .before .before .before .before .before .before .before .before .before .before .before .before .before .before .before .before .before .before .before .before .before .before .before .before .args .t .now) (c .before .before .before .before .before .before .before .before .before .before .before .before .before .before .before .before .before .before .before .before .before .before .before .before .before .before .before .before .before .before .before .before .before .before .before .before .before .before .before .args .x)) (c .before .before .before .before .before .before .before .before .before .before .before .before .before .before .before .before .before .before .before .before .before .before .before .before .before .before .before .before .before .before .before .before .before .before .before .before .before .before .before .args .target) (c .before .before .before .before .before .before .before .before .before .before .before .before .before .before .before .before .before .before .before .before .before .before .before .before .before .before .before .before .before .before .before .before .before .before .before .before .before .before .before .args .closer) (c .before .before .before .before .before .before .before .before .before .before .before .before .before .before .before .before .before .before .before .before .before .before .before .before .before .before .before .before .before .before .before .before .before .before .before .before .before .before .before .args .floor) z (Outcomes.breaksOf
+    (c .before .before .before .before .before .before .before .before .before .before .before .before .before .before .before .before .before .before .before .before .before .before .before .before .before .before .before .before .before .before .before .before .before .before .before .before .before .before .before .args .x .locals) (breaksIn (c .before .before .before .before .before .before .before .before .before .before .before .before .before .before .before .before .before .before .before .before .before .before .before .before .interp-region .result .breaks) (c .before .before .before .before .before .before .before .before .before .before .before .before .before .before .before .before .before .before .before .before .before .before .before .before .interp-region .last .1 .1 .1 .1 .1 .0) (c .before .before .before .before .before .before .before .before .before .before .before .before .before .before .before .before .before .before .before .before .before .before .before .before .interp-region .last .1 .1 .1 .1 .1 .1 .0))) (sheetsOf (c .before .before .before .before .before .before .before .before .before .before .before .before .before .before .before .before .before .before .before .before .before .before .before .before .interp-region .last .1 .0)
+    (c .before .before .before .before .before .before .before .before .before .before .before .before .before .before .before .before .before .before .before .before .before .before .before .before .interp-region .last .1 .1 .0))) (c .before .before .before .before .before .before .before .before .before .before .before .before .before .before .before .before .before .before .before .before .before .before .before .before .before .before .before .before .before .before .before .copy .ensures .1)) (Laws.open-by (c .before .before .before .before .before .before .before .before .before .before .before .interp-region2 .result .flow) (c .before .before .before .before .before .match2 .keys2)) (outcomeIn (c .join-ends .result)
+    (c .join-ends .last .0) (c .join-ends .last .1 .0) (c .before .before .before .before .before .before .before .before .before .before .before .interp-region2 .last .1 .1 .1 .1 .1 .0) (c .before .before .before .before .before .before .before .before .before .before .before .interp-region2 .last .1 .1 .1 .1 .1 .1 .0))
+    (c .join-ends .ensures .1 (c .before .before .before .before .before .before .before .before .before .before .before .interp-region2 .last .1 .1 .1 .1 .1 .0) (c .before .before .before .before .before .before .before .before .before .before .before .interp-region2 .last .1 .1 .1 .1 .1 .1 .0) _), (let q = Cycle.two-arms-in (c .before .before .before .before .before .before .before .before .before .before .before .before .before .before .before .before .before .before .before .before .before .before .before .before .before .before .before .before .before .before .before .before .before .before .before .before .before .before .before .args .t .now) (c .before .before .before .before .before .before .before .before .before .before .before .before .before .before .before .before .before .before .before .before .before .before .before .before .before .before .before .before .before .before .before .before .before .before .before .before .before .before .before .args .heights .now)
+    (c .before .before .before .before .before .before .before .before .before .before .before .before .before .before .before .before .before .before .before .before .before .before .before .before .before .before .before .before .before .before .before .before .before .before .before .before .before .before .before .args .blinds .now) (c .before .before .before .before .before .before .before .before .before .before .before .before .before .before .before .before .before .before .before .before .before .before .before .before .before .before .before .before .before .before .before .before .before .before .before .before .before .before .before .args .x) (c .before .before .before .before .before .before .before .before .before .before .before .before .before .before .before .before .before .before .before .before .before .before .before .before .before .before .before .before .before .before .before .before .before .before .before .before .before .before .before .args .target) (c .before .before .before .before .before .before .before .before .before .before .before .before .before .before .before .before .before .before .before .before .before .before .before .before .before .before .before .before .before .before .before .before .before .before .before .before .before .before .before .args .ip) (c .before .before .before .before .before .before .before .before .before .before .before .before .before .before .before .before .before .before .before .before .before .before .before .before .before .before .before .before .before .before .before .before .before .before .before .before .before .before .before .args .end) (c .before .before .before .before .before .before .before .before .before .before .before .before .before .before .before .before .before .before .before .before .before .before .before .before .before .before .before .before .before .before .before .before .before .before .before .before .before .before .before .args .floor) _ _ (c .before .before .before .before .before .before .before .before .before .before .before .before .before .before .before .before .before .before .before .before .before .before .before .before .before .before .before .before .before .before .before .before .before .before .before .before .before .before .before .pre .1 .0) (c .before .before .before .before .before .before .before .before .before .before .before .before .before .before .before .before .before .before .before .before .before .before .before .before .before .before .before .before .before .before .before .before .before .before .before .before .before .before .before .pre .1 .1 .1 .0) (c .before .before .before .before .before .before .before .before .before .before .before .before .before .before .before .before .before .before .before .before .before .before .before .before .before .before .before .before .before .before .before .before .before .before .before .before .before .before .before .pre .1 .1 .1 .1) (c .before .before .before .before .before .before .before .before .before .before .before .before .before .before .before .before .before .before .before .before .before .before .before .before .before .before .before .before .before .before .before .before .before .before .before .before .before .before .before .args .closer) (c .before .before .before .before .before .before .before .before .before .before .before .before .before .before .before .before .before .before .before .before .before .before .before .before .before .before .before .before .before .before .before .before .before .before .before .before .before .before .before .pre .1 .1 .1 .2) in (omega (arith, q .0, q .1), omega (arith, q .2),
+    c .join-ends .ensures .2)))
 
 pub +block-at+if-at+interp-region+last-pass+loop-at+one-arm+passes-at+two-arms-spec :
     {M : Type 1} → statement M
@@ -2426,8 +2544,6 @@ pub +block-at+if-at+interp-region+last-pass+loop-at+one-arm+passes-at+two-arms-s
     (λ t. if-at-lts.spec (
       guard-at-reads.Asked,
       guard-at-reads.Learnt,
-      passed-reads.Asked,
-      passed-reads.Learnt,
       refused-at-reads.Asked,
       refused-at-reads.Learnt,
       layout-of-reads.Asked,
@@ -2440,12 +2556,13 @@ pub +block-at+if-at+interp-region+last-pass+loop-at+one-arm+passes-at+two-arms-s
     (if-at-at t)
     if-at.Post
     (if-at-guard-at-requires t)
-    (if-at-passed-requires t)
+    (if-at-enum-told t)
+    (if-at-enum-told-2 t)
     (if-at-refused-at-requires t)
     (if-at-same-length t)
     (if-at-returns t)
     (if-at-layout-of-requires t)
-    (if-at-enum-told t)
+    (if-at-enum-told-3 t)
     (if-at-sub-one-arm t)
     (if-at-one-arm-requires t)
     (if-at-enum-known-l t)
@@ -2464,8 +2581,6 @@ pub +block-at+if-at+interp-region+last-pass+loop-at+one-arm+passes-at+two-arms-s
       is-straight-reads.Learnt,
       step-reads.Asked,
       step-reads.Learnt,
-      passed-reads.Asked,
-      passed-reads.Learnt,
       block-at-below t,
       block-at.Post,
     )
@@ -2478,7 +2593,8 @@ pub +block-at+if-at+interp-region+last-pass+loop-at+one-arm+passes-at+two-arms-s
     (interp-region-instr-at-requires t)
     (interp-region-is-straight-requires t)
     (interp-region-step-requires t)
-    (interp-region-passed-requires t)
+    (interp-region-enum-told t)
+    (interp-region-enum-told-2 t)
     (interp-region-same-length t)
     (interp-region-same-length-2 t)
     (interp-region-returns t)
@@ -2486,14 +2602,14 @@ pub +block-at+if-at+interp-region+last-pass+loop-at+one-arm+passes-at+two-arms-s
     (interp-region-loop-again t)
     (interp-region-cast-block-at t)
     (interp-region-block-at-requires t)
-    (interp-region-enum-told t)
+    (interp-region-enum-told-3 t)
     (interp-region-loop-less-2 t)
     (interp-region-loop-again-2 t)
-    (interp-region-enum-told-2 t)
+    (interp-region-enum-told-4 t)
     (interp-region-same-length-3 t)
     (interp-region-same-length-4 t)
     (interp-region-returns-2 t)
-    (interp-region-enum-told-3 t)
+    (interp-region-enum-told-5 t)
     (interp-region-same-length-5 t)
     (interp-region-same-length-6 t)
     (interp-region-returns-3 t)
