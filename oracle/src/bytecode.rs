@@ -140,8 +140,8 @@ macro_rules! variants {
         impl Operand for $operand {
             fn read(cursor: &mut Cursor) -> Option<Self> {
                 cursor.text(" ")?;
-                match cursor.word()? {
-                    $(stringify!($variant) =>
+                match cursor.word() {
+                    $(word if word == stringify!($variant).as_bytes() =>
                         Some($operand::$variant $({ $($field: <$number>::read(cursor)?),+ })?),)+
                     _ => None,
                 }
@@ -209,15 +209,28 @@ macro_rules! ops {
         #[derive(Clone, Debug, PartialEq, Eq)]
         pub enum Op { $($name $(($($form),+))?),+ }
 
+        /// An op without its operands.
+        #[derive(Clone, Copy)]
+        enum Name { $($name),+ }
+
+        impl Name {
+            const ALL: &[Name] = &[$(Name::$name),+];
+        }
+
         impl Op {
             pub const NAMES: &[&str] = &[$(stringify!($name)),+];
 
-            /// Reads the operands that follow a name.
-            pub fn read(name: &str, cursor: &mut Cursor) -> Option<Op> {
-                match name {
-                    $(stringify!($name) => Some(Op::$name $(($(<$form>::read(cursor)?),+))?),)+
-                    _ => None,
+            /// Reads a name and its operands, and adds the op. It is made in its place among `ops`: copies of it on the
+            /// way there would cost as much as all else.
+            pub fn read(cursor: &mut Cursor, ops: &mut Vec<Op>) -> Option<()> {
+                match Name::at_place_of(cursor.word_ahead())? {
+                    $(Name::$name => {
+                        cursor.text(stringify!($name))?;
+                        $($(let $operand = <$form>::read(cursor)?;)+)?
+                        ops.push(Op::$name $(($($operand),+))?);
+                    })+
                 }
+                Some(())
             }
 
             /// Writes the name and the operands.
@@ -256,4 +269,31 @@ ops! {
     If(target: u16), BreakIf(target: u16), Else(target: u16), EndIf, Loop(target: u16), EndLoop(target: u16),
     Break(target: u16),
     Stream, Reset, Return,
+}
+
+impl Name {
+    /// The one name that a word may be, by the word's place.
+    const AT_PLACE: [Option<Name>; 256] = {
+        let mut names = [None; 256];
+        let mut number = 0;
+        while number < Name::ALL.len() {
+            let place = Name::place(Op::NAMES[number].as_bytes()).expect("a name has two letters");
+            assert!(names[place].is_none(), "each name has a place of its own");
+            names[place] = Some(Name::ALL[number]);
+            number += 1;
+        }
+        names
+    };
+
+    /// A number below 256 made of four letters, so that no two names share it.
+    const fn place(word: &[u8]) -> Option<usize> {
+        let [.., before_last, last] = word else { return None };
+        let (first, middle) = (word[0] as usize, word[word.len() / 2] as usize);
+        Some((19 * first + 30 * middle + *before_last as usize + *last as usize) % 256)
+    }
+
+    /// The one name that the word may be. It is not compared here.
+    fn at_place_of(word: &[u8]) -> Option<Name> {
+        Name::AT_PLACE[Name::place(word)?]
+    }
 }

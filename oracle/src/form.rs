@@ -2,46 +2,60 @@
 
 use crate::value_layout::{CompositeKind, ScalarKind};
 
-/// What is left of a line.
+/// What is left of a listing. Nothing of it is copied: words are slices of the listing's bytes.
 #[derive(Clone, Copy)]
 pub struct Cursor<'a> {
     rest: &'a [u8],
 }
 
 impl<'a> Cursor<'a> {
-    pub fn new(line: &'a [u8]) -> Cursor<'a> {
-        Cursor { rest: line }
+    pub fn new(bytes: &'a [u8]) -> Cursor<'a> {
+        Cursor { rest: bytes }
     }
 
-    /// Takes exactly this text.
+    pub fn bytes_left(&self) -> usize {
+        self.rest.len()
+    }
+
+    /// Whether this byte comes next.
+    pub fn is_at(&self, byte: u8) -> bool {
+        self.rest.first() == Some(&byte)
+    }
+
+    /// Takes exactly this text. Inlined, so that a literal is compared without a call.
+    #[inline(always)]
     pub fn text(&mut self, text: &str) -> Option<()> {
         self.rest = self.rest.strip_prefix(text.as_bytes())?;
         Some(())
     }
 
-    /// Takes letters, as many as there are; none at all is no word.
-    pub fn word(&mut self) -> Option<&'a str> {
+    /// The letters that come next, as many as there are. They are not taken.
+    pub fn word_ahead(&self) -> &'a [u8] {
         let length = self.rest.iter().take_while(|byte| byte.is_ascii_alphabetic()).count();
-        let (word, rest) = self.rest.split_at(length);
+        &self.rest[..length]
+    }
+
+    /// Takes letters, as many as there are.
+    pub fn word(&mut self) -> &'a [u8] {
+        let (word, rest) = self.rest.split_at(self.word_ahead().len());
         self.rest = rest;
-        str::from_utf8(word).ok().filter(|word| !word.is_empty())
+        word
     }
 
     /// Takes a space and a decimal number without leading zeros, at most `max`.
-    pub fn number(&mut self, max: u64) -> Option<u64> {
-        self.text(" ")?;
-        let length = self.rest.iter().take_while(|byte| byte.is_ascii_digit()).count();
-        let (digits, rest) = self.rest.split_at(length);
-        if digits.is_empty() || (digits.len() > 1 && digits[0] == b'0') {
-            return None;
-        }
+    pub fn number(&mut self, max: u32) -> Option<u32> {
+        let [b' ', first @ b'0'..=b'9', rest @ ..] = self.rest else { return None };
         self.rest = rest;
-        str::from_utf8(digits).ok()?.parse().ok().filter(|value| *value <= max)
-    }
-
-    /// Nothing may be left.
-    pub fn end(&self) -> Option<()> {
-        self.rest.is_empty().then_some(())
+        let mut value = u64::from(first - b'0');
+        while let [digit @ b'0'..=b'9', rest @ ..] = self.rest {
+            let is_zero_in_front = value == 0;
+            value = value * 10 + u64::from(digit - b'0');
+            if is_zero_in_front || value > u64::from(max) {
+                return None;
+            }
+            self.rest = rest;
+        }
+        u32::try_from(value).ok().filter(|value| *value <= max)
     }
 }
 
@@ -55,7 +69,7 @@ macro_rules! number_operands {
     ($($number:ty),+) => {$(
         impl Operand for $number {
             fn read(cursor: &mut Cursor) -> Option<Self> {
-                Self::try_from(cursor.number(u64::from(Self::MAX))?).ok()
+                Self::try_from(cursor.number(u32::from(Self::MAX))?).ok()
             }
 
             fn write(&self, out: &mut String) {

@@ -45,28 +45,20 @@ impl Listing {
 
 // ── Reading ──────────────────────────────────────────────────────────────────────────────
 
-/// Reads a listing: refusals 1 and 2 (limits 1 to 3).
+/// Reads a listing: refusals 1 and 2 (limits 1 to 3). It goes over the bytes once and allocates nothing but the tables.
 pub fn read(bytes: &[u8]) -> Result<Listing, Refusal> {
     if bytes.len() > MAX_BYTES {
         return Err(Refusal::limit(0, 0, 1));
     }
-    let mut reader = Reader::new();
-    let mut lines = 0;
-    let mut rest = bytes;
-    while let Some(length) = rest.iter().position(|byte| *byte == b'\n') {
-        reader.line(&rest[..length]).map_err(|fault| match fault {
-            Fault::CannotFollow => Refusal::line(lines),
-            Fault::TableFull => Refusal::limit(0, 0, 2),
-            Fault::TooManyLocals => Refusal::limit(0, 0, 3),
-        })?;
-        lines += 1;
-        rest = &rest[length + 1..];
-    }
-    // Bytes without an LF are no line, so they cannot follow; and the end may be missing.
-    if !rest.is_empty() || reader.place != Place::End {
-        return Err(Refusal::line(lines));
-    }
-    Ok(reader.listing)
+    let mut cursor = Cursor::new(bytes);
+    listing(&mut cursor).map_err(|fault| match fault {
+        Fault::CannotFollow => {
+            let taken = &bytes[..bytes.len() - cursor.bytes_left()];
+            Refusal::line(taken.iter().filter(|byte| **byte == b'\n').count())
+        }
+        Fault::TableFull => Refusal::limit(0, 0, 2),
+        Fault::TooManyLocals => Refusal::limit(0, 0, 3),
+    })
 }
 
 enum Fault {
@@ -75,178 +67,102 @@ enum Fault {
     TooManyLocals,
 }
 
-/// Where the reader stands, in the order of a listing.
-#[derive(Clone, Copy, PartialEq, Eq, PartialOrd, Ord)]
-enum Place {
-    Start,
-    Slots,
-    Shared,
-    Private,
-    Enums,
-    Natives,
-    Sigs,
-    Chunks,
-    Constants,
-    Ops,
-    End,
+/// The tables in their order. A line's first word decides to which table it belongs; its LF is taken last, and only from
+/// a line that can follow.
+fn listing(cursor: &mut Cursor) -> Result<Listing, Fault> {
+    let mut listing = header(cursor).ok_or(Fault::CannotFollow)?;
+    let module = &mut listing.module;
+    module.data_layout = Some(DataLayout {
+        slots: table(cursor, "(slot ", slot, MAX_SLOTS)?,
+        shared_layout: table(cursor, "(shared", shared, MAX_SLOTS)?,
+        private_composite_layout: table(cursor, "(private", private, MAX_SLOTS)?,
+    });
+    module.enum_layouts = table(cursor, "(enum", enumeration, MAX_ENTRIES)?;
+    module.native_return_shapes = table(cursor, "(native", shape, MAX_ENTRIES)?;
+    module.signatures = signatures(cursor)?;
+    module.chunks = chunks(cursor)?;
+    close(cursor)?;
+    if cursor.bytes_left() == 0 { Ok(listing) } else { Err(Fault::CannotFollow) }
 }
 
-struct Reader {
-    place: Place,
-    constants: usize,
-    ops: usize,
-    listing: Listing,
-}
-
-/// One line, by its form alone.
-enum Line {
-    Module(Listing),
-    Slot(SlotVisibility),
-    Shared(SharedSlotLayout),
-    Private(PrivateCompositeLayout),
-    Enum(EnumLayout),
-    Native(WireShape),
-    Sig(ChunkSignature),
-    Chunk(u16),
-    Const(ConstValue),
-    Op(Op),
-    Close,
-}
-
-impl Reader {
-    fn new() -> Reader {
-        let module = Module { data_layout: Some(DataLayout::default()), ..Module::default() };
-        let listing = Listing { word_bytes: 0, float_bytes: 0, index_code: 0, host_code: 0, module };
-        Reader { place: Place::Start, constants: 0, ops: 0, listing }
+/// Takes a line that begins so, if one comes.
+fn entry<T>(cursor: &mut Cursor, begin: &str, form: impl Fn(&mut Cursor) -> Option<T>) -> Result<Option<T>, Fault> {
+    if cursor.text(begin).is_none() {
+        return Ok(None);
     }
+    let entry = form(cursor).ok_or(Fault::CannotFollow)?;
+    close(cursor)?;
+    Ok(Some(entry))
+}
 
-    /// The whole line's form first, then its place, then a full table, then too many locals.
-    fn line(&mut self, bytes: &[u8]) -> Result<(), Fault> {
-        let line = parse(bytes).ok_or(Fault::CannotFollow)?;
-        self.place = follow(self.place, &line).ok_or(Fault::CannotFollow)?;
-        self.store(line)
-    }
-
-    fn store(&mut self, line: Line) -> Result<(), Fault> {
-        match line {
-            Line::Module(listing) => self.listing = listing,
-            Line::Slot(visibility) => {
-                put(&mut self.listing.layout_mut().slots, DataSlot { visibility }, MAX_SLOTS)?;
-            }
-            Line::Shared(entry) => put(&mut self.listing.layout_mut().shared_layout, entry, MAX_SLOTS)?,
-            Line::Private(entry) => {
-                put(&mut self.listing.layout_mut().private_composite_layout, entry, MAX_SLOTS)?;
-            }
-            Line::Enum(entry) => put(&mut self.listing.module.enum_layouts, entry, MAX_ENTRIES)?,
-            Line::Native(shape) => put(&mut self.listing.module.native_return_shapes, shape, MAX_ENTRIES)?,
-            Line::Sig(sig) => {
-                if sig.params.len() > MAX_PARAMS {
-                    return Err(Fault::TableFull);
-                }
-                put(&mut self.listing.module.signatures, sig, MAX_ENTRIES)?;
-            }
-            Line::Chunk(local_count) => {
-                let chunk = Chunk { local_count, ..Chunk::default() };
-                put(&mut self.listing.module.chunks, chunk, MAX_ENTRIES)?;
-                if local_count > MAX_LOCALS {
-                    return Err(Fault::TooManyLocals);
-                }
-            }
-            Line::Const(value) => {
-                count(&mut self.constants, MAX_CONSTANTS)?;
-                self.last_chunk().constants.push(value);
-            }
-            Line::Op(op) => {
-                count(&mut self.ops, MAX_OPS)?;
-                self.last_chunk().ops.push(op);
-            }
-            Line::Close => {}
+fn table<T>(
+    cursor: &mut Cursor,
+    begin: &str,
+    form: impl Fn(&mut Cursor) -> Option<T>,
+    max: usize,
+) -> Result<Vec<T>, Fault> {
+    let mut entries = Vec::new();
+    while let Some(entry) = entry(cursor, begin, &form)? {
+        if entries.len() == max {
+            return Err(Fault::TableFull);
         }
-        Ok(())
+        entries.push(entry);
     }
-
-    fn last_chunk(&mut self) -> &mut Chunk {
-        self.listing.module.chunks.last_mut().expect("constants and ops stand in a chunk")
-    }
+    Ok(entries)
 }
 
-fn put<T>(table: &mut Vec<T>, entry: T, max: usize) -> Result<(), Fault> {
-    table.push(entry);
-    if table.len() > max { Err(Fault::TableFull) } else { Ok(()) }
-}
-
-fn count(entries: &mut usize, max: usize) -> Result<(), Fault> {
-    *entries += 1;
-    if *entries > max { Err(Fault::TableFull) } else { Ok(()) }
-}
-
-/// The place after a line, or none where it cannot follow.
-fn follow(place: Place, line: &Line) -> Option<Place> {
-    let (first, last, next) = match line {
-        Line::Module(_) => (Place::Start, Place::Start, Place::Slots),
-        Line::Slot(_) => (Place::Slots, Place::Slots, Place::Slots),
-        Line::Shared(_) => (Place::Slots, Place::Shared, Place::Shared),
-        Line::Private(_) => (Place::Slots, Place::Private, Place::Private),
-        Line::Enum(_) => (Place::Slots, Place::Enums, Place::Enums),
-        Line::Native(_) => (Place::Slots, Place::Natives, Place::Natives),
-        Line::Sig(_) => (Place::Slots, Place::Sigs, Place::Sigs),
-        Line::Chunk(_) => (Place::Slots, Place::Chunks, Place::Constants),
-        Line::Const(_) => (Place::Constants, Place::Constants, Place::Constants),
-        Line::Op(_) => (Place::Constants, Place::Ops, Place::Ops),
-        Line::Close if place >= Place::Constants => (Place::Constants, Place::Ops, Place::Chunks),
-        Line::Close => (Place::Slots, Place::Chunks, Place::End),
-    };
-    (first <= place && place <= last).then_some(next)
-}
-
-fn parse(bytes: &[u8]) -> Option<Line> {
-    if bytes == b")" {
-        return Some(Line::Close);
-    }
-    let mut cursor = Cursor::new(bytes);
-    cursor.text("(")?;
-    let keyword = cursor.word()?;
-    let line = entry(keyword, &mut cursor)?;
-    // The module's and a chunk's first line are closed by a line of their own.
-    if !matches!(line, Line::Module(_) | Line::Chunk(_)) {
-        cursor.text(")")?;
-    }
-    cursor.end()?;
-    Some(line)
-}
-
-fn entry(keyword: &str, cursor: &mut Cursor) -> Option<Line> {
-    Some(match keyword {
-        "module" => Line::Module(header(cursor)?),
-        "slot" => {
-            cursor.text(" ")?;
-            Line::Slot(match cursor.word()? {
-                "shared" => SlotVisibility::Shared,
-                "private" => SlotVisibility::Private,
-                _ => return None,
-            })
+fn signatures(cursor: &mut Cursor) -> Result<Vec<ChunkSignature>, Fault> {
+    let mut signatures = Vec::new();
+    while let Some(signature) = entry(cursor, "(sig", signature)? {
+        if signatures.len() == MAX_ENTRIES || signature.params.len() > MAX_PARAMS {
+            return Err(Fault::TableFull);
         }
-        "shared" => Line::Shared(SharedSlotLayout {
-            offset: u32::read(cursor)?,
-            kind: u8::read(cursor)?,
-            len: u16::read(cursor)?,
-        }),
-        "private" => Line::Private(PrivateCompositeLayout { slot: u16::read(cursor)?, offset: u32::read(cursor)? }),
-        "enum" => Line::Enum(EnumLayout { min_payload: u32::read(cursor)? }),
-        "native" => Line::Native(shape(cursor)?),
-        "sig" => Line::Sig(signature(cursor)?),
-        "chunk" => Line::Chunk(u16::read(cursor)?),
-        "const" => Line::Const(ConstValue::from_tag(u8::read(cursor)?)?),
-        "op" => {
-            cursor.text(" ")?;
-            let name = cursor.word()?;
-            Line::Op(Op::read(name, cursor)?)
+        signatures.push(signature);
+    }
+    Ok(signatures)
+}
+
+fn chunks(cursor: &mut Cursor) -> Result<Vec<Chunk>, Fault> {
+    let mut chunks = Vec::new();
+    let (mut constants_left, mut ops_left) = (MAX_CONSTANTS, MAX_OPS);
+    while cursor.text("(chunk").is_some() {
+        let local_count = u16::read(cursor).ok_or(Fault::CannotFollow)?;
+        cursor.text("\n").ok_or(Fault::CannotFollow)?;
+        if chunks.len() == MAX_ENTRIES {
+            return Err(Fault::TableFull);
         }
-        _ => return None,
-    })
+        if local_count > MAX_LOCALS {
+            return Err(Fault::TooManyLocals);
+        }
+        let constants = table(cursor, "(const", constant, constants_left)?;
+        let ops = ops(cursor, ops_left)?;
+        close(cursor)?;
+        constants_left -= constants.len();
+        ops_left -= ops.len();
+        chunks.push(Chunk { local_count, constants, ops });
+    }
+    Ok(chunks)
+}
+
+fn ops(cursor: &mut Cursor, max: usize) -> Result<Vec<Op>, Fault> {
+    let mut ops = Vec::new();
+    while cursor.text("(op ").is_some() {
+        Op::read(cursor, &mut ops).ok_or(Fault::CannotFollow)?;
+        close(cursor)?;
+        if ops.len() > max {
+            return Err(Fault::TableFull);
+        }
+    }
+    Ok(ops)
+}
+
+/// Takes the end of an entry's line. The module and each chunk are closed by a line of their own, which is the same.
+fn close(cursor: &mut Cursor) -> Result<(), Fault> {
+    cursor.text(")\n").ok_or(Fault::CannotFollow)
 }
 
 fn header(cursor: &mut Cursor) -> Option<Listing> {
+    cursor.text("(module")?;
     let mut width = || cursor.number(8).filter(|bytes| bytes.is_power_of_two());
     let word_bytes = width()? as usize;
     let float_bytes = width()? as usize;
@@ -255,22 +171,38 @@ fn header(cursor: &mut Cursor) -> Option<Listing> {
     let persistent_composite_bytes = u32::read(cursor)?;
     let index_code = u16::read(cursor)?;
     let host_code = u16::read(cursor).filter(|code| *code != index_code)?;
-    let module = Module {
-        data_layout: Some(DataLayout::default()),
-        shared_data_bytes,
-        persistent_composite_bytes,
-        addr_bits_log2,
-        ..Module::default()
-    };
+    cursor.text("\n")?;
+    let module = Module { shared_data_bytes, persistent_composite_bytes, addr_bits_log2, ..Module::default() };
     Some(Listing { word_bytes, float_bytes, index_code, host_code, module })
+}
+
+fn slot(cursor: &mut Cursor) -> Option<DataSlot> {
+    let visibility = match cursor.word() {
+        b"shared" => SlotVisibility::Shared,
+        b"private" => SlotVisibility::Private,
+        _ => return None,
+    };
+    Some(DataSlot { visibility })
+}
+
+fn shared(cursor: &mut Cursor) -> Option<SharedSlotLayout> {
+    Some(SharedSlotLayout { offset: u32::read(cursor)?, kind: u8::read(cursor)?, len: u16::read(cursor)? })
+}
+
+fn private(cursor: &mut Cursor) -> Option<PrivateCompositeLayout> {
+    Some(PrivateCompositeLayout { slot: u16::read(cursor)?, offset: u32::read(cursor)? })
+}
+
+fn enumeration(cursor: &mut Cursor) -> Option<EnumLayout> {
+    Some(EnumLayout { min_payload: u32::read(cursor)? })
 }
 
 fn shape(cursor: &mut Cursor) -> Option<WireShape> {
     cursor.text(" (")?;
-    let shape = match cursor.word()? {
-        "top" => WireShape::Top,
-        "scalar" => WireShape::Scalar { kind: u8::read(cursor)? },
-        "flat" => WireShape::Flat { kind: u8::read(cursor)?, size: u32::read(cursor)? },
+    let shape = match cursor.word() {
+        b"top" => WireShape::Top,
+        b"scalar" => WireShape::Scalar { kind: u8::read(cursor)? },
+        b"flat" => WireShape::Flat { kind: u8::read(cursor)?, size: u32::read(cursor)? },
         _ => return None,
     };
     cursor.text(")")?;
@@ -281,13 +213,14 @@ fn signature(cursor: &mut Cursor) -> Option<ChunkSignature> {
     let ret = shape(cursor)?;
     let resume = shape(cursor)?;
     let mut params = Vec::new();
-    // What is no further shape is left for the caller, who wants the line's end there.
-    let mut ahead = *cursor;
-    while let Some(param) = shape(&mut ahead) {
-        params.push(param);
-        *cursor = ahead;
+    while cursor.is_at(b' ') {
+        params.push(shape(cursor)?);
     }
     Some(ChunkSignature { params, ret, resume })
+}
+
+fn constant(cursor: &mut Cursor) -> Option<ConstValue> {
+    ConstValue::from_tag(u8::read(cursor)?)
 }
 
 // ── Writing ──────────────────────────────────────────────────────────────────────────────
@@ -365,5 +298,35 @@ fn shape_text(shape: &WireShape) -> String {
         WireShape::Top => " (top)".to_string(),
         WireShape::Scalar { kind } => format!(" (scalar {kind})"),
         WireShape::Flat { kind, size } => format!(" (flat {kind} {size})"),
+    }
+}
+
+#[cfg(test)]
+mod tests {
+    use super::*;
+
+    const MODULE: &str = "(module 8 8 6 0 0 8 9\n";
+
+    fn refused(text: String) -> Vec<u64> {
+        read(text.as_bytes()).expect_err("it is refused").words()
+    }
+
+    #[test]
+    fn a_limit_is_passed_by_a_whole_line_and_before_any_later_line() {
+        let shapes = " (top)".repeat(2 + MAX_PARAMS + 1);
+        assert_eq!(refused(format!("{MODULE}(sig{shapes})\n(sig\n")), [2, 0, 0, 2]);
+        assert_eq!(refused(format!("{MODULE}(sig{shapes} (x))\n")), [1, 0, 1]);
+        assert_eq!(refused(format!("{MODULE}(chunk 33\nx\n")), [2, 0, 0, 3]);
+        assert_eq!(refused(format!("{MODULE}(chunk 33")), [1, 0, 1]);
+        assert_eq!(refused(format!("{MODULE}(chunk 0\n{}(op x", "(op Dup)\n".repeat(MAX_OPS + 1))), [2, 0, 0, 2]);
+    }
+
+    #[test]
+    fn what_is_nearly_a_name_is_none() {
+        for name in Op::NAMES {
+            let line = |name: &str| format!("{MODULE}(chunk 0\n(op {name}x)\n");
+            assert_eq!(refused(line(name)), [1, 0, 2]);
+            assert_eq!(refused(line(&name[1..])), [1, 0, 2]);
+        }
     }
 }
