@@ -158,6 +158,13 @@ struct Times {
     spread: f64,
 }
 
+impl Times {
+    /// What comes after our reading, over the Rust's check, which is given a module that was read.
+    fn after_reading(&self) -> Option<f64> {
+        Some((self.our_check - self.our_reading?) / self.rust_check?)
+    }
+}
+
 /// Measures a class. In each round all measurements take their turn.
 fn measure(class: &Prepared, count: usize) -> Times {
     let (mut for_reading, mut for_check, mut alone) = (Ours::new(), Ours::new(), Ours::new());
@@ -202,25 +209,26 @@ fn instructions(bytes: &[u8]) -> usize {
     bytes.windows(4).filter(|window| window == b"(op ").count()
 }
 
-fn microseconds(time: Option<f64>) -> String {
-    time.map_or("-".to_string(), |time| format!("{time:.2}"))
+fn number(number: Option<f64>) -> String {
+    number.map_or("-".to_string(), |number| format!("{number:.2}"))
 }
 
 fn row(name: &str, listings: Vec<Vec<u8>>, rounds: usize) -> Times {
     let class = prepare(listings);
     let times = measure(&class, rounds);
     println!(
-        "| {name:<24} | {:>8} | {:>12} | {:>6} | {:>11} | {:>10} | {:>10} | {:>10} | {:>11} | {:>6.1} | {:>6.1} | {:>5.0}% |",
+        "| {name:<24} | {:>8} | {:>12} | {:>6} | {:>11} | {:>10} | {:>10} | {:>10} | {:>11} | {:>6.2} | {:>6.2} | {:>6} | {:>5.0}% |",
         class.bytes.len(),
         median(class.bytes.iter().map(|bytes| instructions(bytes)).collect()),
         median(class.bytes.iter().map(Vec::len).collect()),
-        microseconds(times.our_reading),
-        microseconds(Some(times.our_check)),
-        microseconds(Some(times.check_alone)),
-        microseconds(times.rust_check),
-        microseconds(Some(times.rust_with_reader)),
+        number(times.our_reading),
+        number(Some(times.our_check)),
+        number(Some(times.check_alone)),
+        number(times.rust_check),
+        number(Some(times.rust_with_reader)),
         times.our_check / times.rust_with_reader,
         times.check_alone / times.rust_with_reader,
+        number(times.after_reading()),
         times.spread * 100.0,
     );
     times
@@ -228,7 +236,7 @@ fn row(name: &str, listings: Vec<Vec<u8>>, rounds: usize) -> Times {
 
 fn head() {
     println!(
-        "| {:<24} | {:>8} | {:>12} | {:>6} | {:>11} | {:>10} | {:>10} | {:>10} | {:>11} | {:>6} | {:>6} | {:>6} |",
+        "| {:<24} | {:>8} | {:>12} | {:>6} | {:>11} | {:>10} | {:>10} | {:>10} | {:>11} | {:>6} | {:>6} | {:>6} | {:>6} |",
         "class",
         "listings",
         "instructions",
@@ -240,9 +248,10 @@ fn head() {
         "Rust + read",
         "ratio",
         "own t.",
+        "alone",
         "spread"
     );
-    println!("|---|---:|---:|---:|---:|---:|---:|---:|---:|---:|---:|---:|");
+    println!("|---|---:|---:|---:|---:|---:|---:|---:|---:|---:|---:|---:|---:|");
 }
 
 /// Rows of growing listings, then how the times grow from one to the next.
