@@ -1,10 +1,30 @@
-/* The typed check of Keleusma modules, for programs in C and C++: link target/staticlib/libstagecheck_c.a.
+/* The typed check of Keleusma modules, for programs in C and C++.
  *
- * One call decides a listing; there are two, which differ in where the tables are. It allocates nothing, reads and writes nothing but what is lent, keeps nothing between
- * calls, and ends for every input. Calls from several threads are free of each other where what they lend is.
- * What the answer and the sheets are for each listing is proved (docs/PROMISES.md); what follows here in words is
- * document 01's. Stack of a call, measured, tables included: eight nested loops 396 KiB, eight nested Ifs 280 KiB
- * (docs/BENCH.md); allow 1 MiB. A call always ends, but loops in loops multiply its time: docs/BENCH.md.
+ * Link: `cc prog.c -lstagecheck` after `./install PREFIX` (with -I PREFIX/include -L PREFIX/lib, or with what
+ * `pkg-config --cflags --libs stagecheck` gives), or `cc -I include prog.c target/staticlib/libstagecheck_c.a` in the
+ * repository. The library needs memcpy and memset and nothing else. It is for x86-64 Linux alone, since the compiler
+ * that proves it makes code for that alone.
+ *
+ * Two functions check a listing; they differ in where the tables are. Four turn a listing or an answer into words. All of
+ * them allocate nothing, read and write nothing but what is lent, keep nothing between calls, and end for every input.
+ * Calls from several threads are free of each other where what they lend is. What the answer, the sheets and the text are
+ * for each listing is proved (docs/PROMISES.md); what follows here in words is document 01's.
+ *
+ * Time: no limit of time is built in. Loops in loops multiply the passes of the walk, and a listing that keeps all limits
+ * can keep a call busy practically for ever (docs/BENCH.md). A controller needs a limit of its own: a watchdog, or a
+ * process that it can end. A later version brings one.
+ *
+ * Stack: allow 1 MiB. Measured, the whole program's: eight nested loops 396 KiB, with lent tables 224; eight nested Ifs 280
+ * KiB, with lent tables 104 (docs/BENCH.md). Some C libraries give a thread less: musl 128 KiB, too little for any call with
+ * tables of its own, and with lent ones for nested loops. Make such a thread with a larger stack. A stack that is too
+ * small ends the program at the guard page: each frame touches its pages in turn, so that none passes over it.
+ *
+ * Pointers: the caller sees to it that
+ *   - each pointer is good for its length; it may be null where the length is 0;
+ *   - `answer`, `tables` and the `text` of stagecheck_text have a fixed length and are never null; `answer` and `tables`
+ *     are aligned as uint64_t is;
+ *   - what is written (sheets, answer, tables, text) overlaps nothing else that is lent, and nobody else writes to what is
+ *     lent, or reads what is written, before the call returns.
  */
 #ifndef STAGECHECK_H
 #define STAGECHECK_H
@@ -16,6 +36,8 @@
 extern "C" {
 #endif
 
+/* The version of this header and of the library, as in the file VERSION. */
+#define STAGECHECK_VERSION "1.0.0"
 /* The words of an answer. */
 #define STAGECHECK_ANSWER_WORDS 8
 /* The words of the tables, 174 KiB. */
@@ -24,6 +46,8 @@ extern "C" {
 #define STAGECHECK_MOST_BYTES 65536
 /* The most instructions of a listing: sheets of so many entries are never too short. */
 #define STAGECHECK_MOST_INSTRUCTIONS 4096
+/* The bytes that the longest text of stagecheck_text has room in. */
+#define STAGECHECK_TEXT_BYTES 73746
 
 /* Word 0 of an answer. 5 to 19 bear the names of the Rust's errors.
  *
@@ -114,7 +138,7 @@ enum stagecheck_number {
 
 /* Checks a listing.
  *
- * listing, listing_length    the listing's bytes; only read.
+ * listing, listing_length    the listing's bytes, any; only read.
  * heights, heights_length    the height sheet, an entry for each instruction, in listing order over all chunks.
  *                            Whatever it holds is overwritten. Accepted: 1 + the number of operands before the
  *                            instruction, or 0 where the walk does not examine it (Else, EndIf and EndLoop are never
@@ -125,13 +149,6 @@ enum stagecheck_number {
  *                            not have are 0.
  *
  * Returns how many words the answer has: 3 for an acceptance, 3 to 6 for a refusal.
- *
- * The caller sees to it that
- *   - no pointer is null, not even with length 0: an empty listing or sheet has any other pointer, as that of a local
- *     variable, and nothing is read or written through it;
- *   - each pointer is good for its length, and `answer` is aligned as uint64_t is and good for 8 words;
- *   - neither sheet, nor `answer`, overlaps anything else that is lent, and nobody else writes to what is lent, or
- *     reads the sheets or the answer, before the call returns.
  * Sheets may have any length, unequal ones too; one that is too short is refusal 4.
  */
 size_t stagecheck_check(const uint8_t *listing, size_t listing_length,
@@ -144,14 +161,51 @@ size_t stagecheck_check(const uint8_t *listing, size_t listing_length,
  *
  * tables                     room for STAGECHECK_TABLE_WORDS words, aligned as uint64_t is. Whatever they hold is of
  *                            no account; what they hold after the call is not promised.
- *
- * What is said of `answer` above, of pointers and of overlapping, holds of `tables` too.
  */
 size_t stagecheck_check_in(const uint8_t *listing, size_t listing_length,
                            uint64_t *tables,
                            uint8_t *heights, size_t heights_length,
                            uint8_t *blinds, size_t blinds_length,
                            uint64_t *answer);
+
+/* Checks a listing with sheets of 4,096 entries and writes what the program of document 01 prints for it: `accepted CHUNKS
+ * INSTRUCTIONS` and a line for each instruction, or `refused` and the refusal's numbers in one line; each line with its
+ * LF. So the first byte tells the verdict: `a` or `r`.
+ *
+ * text                       room for STAGECHECK_TEXT_BYTES bytes. Those past the text are of no account.
+ *
+ * Returns how many bytes the text has. That text and length equal the definition's is proved.
+ */
+size_t stagecheck_text(const uint8_t *listing, size_t listing_length,
+                       uint8_t *text);
+
+/* Says an answer in words. For a refusal: the line of the listing that is at fault, where there is one, the refusal's
+ * name and a sentence with its values. For an acceptance: the lines of the listing, with height and mark beside each
+ * instruction. It does not check: it is lent the listing, and the sheets and the answer that a call above left for it.
+ * With others it is as safe, and what it says is of no account.
+ *
+ * text, text_length          room for the explanation, of any length. As much is written as has room; the explanation
+ *                            does not end in a zero byte.
+ *
+ * Returns how many bytes the whole explanation has, whatever room there is: with room 0 it is only counted, as by
+ * snprintf. That the call is safe and ends is proved; what it says is tested.
+ */
+size_t stagecheck_explain(const uint8_t *listing, size_t listing_length,
+                          const uint8_t *heights, size_t heights_length,
+                          const uint8_t *blinds, size_t blinds_length,
+                          const uint64_t *answer,
+                          uint8_t *text, size_t text_length);
+
+/* The line of the listing, counted from 1, at which an answer's fault is; 0 where no line is at fault, and for an
+ * acceptance. `answer` is that of a call above for the same listing. Safety is proved, the line is tested.
+ */
+size_t stagecheck_line(const uint8_t *listing, size_t listing_length,
+                       const uint64_t *answer);
+
+/* The name of a refusal, as `OffsetOutOfBounds` for 6, without a zero byte at its end. As much is written as has room.
+ * Returns how many bytes the whole name has, 0 for a number that is no refusal's.
+ */
+size_t stagecheck_name(uint64_t number, uint8_t *text, size_t text_length);
 
 #ifdef __cplusplus
 }
