@@ -411,5 +411,5 @@ int main(int argc, char **argv)
         complain("standard output", strerror(write_error));
         return FAILED;
     }
-    return status;
+    return (int)status;
 }
