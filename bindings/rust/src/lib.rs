@@ -1,0 +1,62 @@
+//! The typed check of Keleusma modules: decides a listing before it runs.
+//!
+//! [`check`] accepts or refuses any bytes. What it answers is proved equal to a definition; this package calls the static
+//! library and gives its numbers names.
+//!
+//! ```
+//! let listing = b"(module 8 8 6 0 0 8 9
+//! (sig (top) (top) (flat 0 16))
+//! (chunk 1
+//! (op GetLocal 0)
+//! (op GetField Flat 8 3)
+//! (op Return)
+//! )
+//! )
+//! ";
+//! let accepted = stagecheck::check(listing)?;
+//! assert_eq!(accepted.instructions(), 3);
+//! assert_eq!(accepted.heights(), [Some(0), Some(1), Some(1)]);
+//! # Ok::<(), stagecheck::Refusal>(())
+//! ```
+//!
+//! The same with a read that ends one byte past the composite:
+//!
+//! ```
+//! use stagecheck::Refusal;
+//!
+//! let listing = b"(module 8 8 6 0 0 8 9
+//! (sig (top) (top) (flat 0 16))
+//! (chunk 1
+//! (op GetLocal 0)
+//! (op GetField Flat 9 3)
+//! (op Return)
+//! )
+//! )
+//! ";
+//! let refusal = stagecheck::check(listing).unwrap_err();
+//! assert_eq!(refusal, Refusal::OffsetOutOfBounds { chunk: 0, ip: 1, offset: 9, need: 17, size: 16 });
+//! assert_eq!(
+//!     refusal.to_string(),
+//!     "chunk 0, instruction 1: the read at offset 9 ends at byte 17 of a composite of 16 bytes"
+//! );
+//! ```
+//!
+//! # Time and stack
+//!
+//! A call always ends, but there is no limit of time: loops in loops multiply the passes of the walk, and a listing within all
+//! limits can keep a call busy practically for ever. Where listings come from strangers, call in a process that can be ended. A
+//! call needs up to 224 KiB of stack, measured; threads of Rust have 2 MiB unless told otherwise. The library is for x86-64 Linux.
+
+// `forbid` at the root cannot be lifted for `sys`: so the root denies, and every other module forbids.
+#![deny(unsafe_code)]
+#![warn(missing_docs)]
+
+mod accepted;
+mod check;
+mod refusal;
+#[allow(unsafe_code)]
+mod sys;
+
+pub use accepted::Accepted;
+pub use check::{Checker, check};
+pub use refusal::{Limit, PrivateReason, Refusal, SharedReason};

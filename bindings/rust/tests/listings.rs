@@ -1,0 +1,70 @@
+//! The listings of examples/ and oracle/cases/, against the stored texts of the program; and a call in a small thread.
+
+use stagecheck::{Checker, Refusal, check};
+use std::path::{Path, PathBuf};
+
+fn repository() -> PathBuf {
+    Path::new(env!("CARGO_MANIFEST_DIR")).join("../..")
+}
+
+/// The listings of a folder, each with its stored text.
+fn listings(folder: &str, text_extension: &str) -> Vec<(Vec<u8>, String)> {
+    let names = std::fs::read_dir(repository().join(folder)).expect(folder).map(|entry| entry.expect(folder).path());
+    let listings: Vec<PathBuf> = names.filter(|name| name.extension().is_some_and(|end| end == "listing")).collect();
+    assert!(!listings.is_empty(), "no listing in {folder}");
+    let read = |name: PathBuf| {
+        let text = std::fs::read_to_string(name.with_extension(text_extension)).expect("its text");
+        (std::fs::read(name).expect("a listing"), text)
+    };
+    listings.into_iter().map(read).collect()
+}
+
+/// The program's text without chunk and index of each instruction, which an acceptance does not have.
+fn stored(text: &str) -> Vec<String> {
+    let (first, rest) = text.split_once('\n').expect("a line");
+    let instructions = rest.lines().map(|line| line.splitn(3, ' ').nth(2).expect("height and mark").to_string());
+    std::iter::once(first.to_string()).chain(instructions).collect()
+}
+
+fn given(listing: &[u8], checker: &mut Checker) -> Vec<String> {
+    let answer = checker.check(listing);
+    assert_eq!(answer, check(listing), "a kept checker and a new one differ");
+    match answer {
+        Ok(accepted) => {
+            let first = format!("accepted {} {}", accepted.chunks(), accepted.instructions());
+            let lines = accepted.heights().iter().zip(accepted.blind()).map(|(height, blind)| {
+                let height = height.map_or("-".to_string(), |height| height.to_string());
+                format!("{height} {}", if *blind { "blind" } else { "plain" })
+            });
+            std::iter::once(first).chain(lines).collect()
+        }
+        Err(refusal) => {
+            let numbers = refusal.numbers().iter().map(u64::to_string).collect::<Vec<_>>();
+            vec![format!("refused {}", numbers.join(" "))]
+        }
+    }
+}
+
+#[test]
+fn examples_and_cases_are_as_stored() {
+    let mut checker = Checker::new();
+    for (listing, text) in [listings("examples", "expected"), listings("oracle/cases", "whole")].concat() {
+        assert_eq!(given(&listing, &mut checker), stored(&text));
+    }
+}
+
+#[test]
+fn a_refusal_is_an_error() {
+    let refusal: Box<dyn std::error::Error> = check(b"").unwrap_err().into();
+    assert_eq!(refusal.to_string(), "after 0 lines comes one that cannot follow, or the end is missing");
+    assert_eq!(refusal.downcast_ref(), Some(&Refusal::CannotFollow { lines: 0 }));
+}
+
+/// The deepest nest of loops, in a thread of 1 MiB.
+#[test]
+fn one_mebibyte_of_stack_is_enough() {
+    let listing = std::fs::read(repository().join("bench/eight_loops.listing")).expect("a listing");
+    let thread = std::thread::Builder::new().stack_size(1 << 20);
+    let answer = thread.spawn(move || check(&listing)).expect("a thread").join().expect("an answer");
+    assert_eq!(answer.expect("it is accepted").instructions(), 33);
+}
