@@ -1,8 +1,8 @@
 """check_json.py [--all-refusals] OUT FILES: holds what `stagecheck --json` wrote to what the proved program prints.
 
-OUT is the output. FILES has for each object, in order, three names, each ended by a zero byte: the file as the program was
-given it, the listing, and the proved program's text of it. With --all-refusals every refusal must be met but 4, which
-hangs on the sheets that are lent.
+OUT is the output. FILES has for each object, in order, three names, each ended by a zero byte: the file as the program
+was given it, the listing, and the proved program's text of it. With --all-refusals every refusal must be met but 4,
+which hangs on the sheets that are lent.
 """
 
 import codecs

@@ -37,7 +37,8 @@ static void check_null(void)
     expect("no listing, no sheets", answer_is(stagecheck_check(NULL, 0, NULL, 0, NULL, 0, answer), 1, 0, 0));
     expect("no listing, no sheets, lent tables",
            answer_is(stagecheck_check_in(NULL, 0, tables, NULL, 0, NULL, 0, answer), 1, 0, 0));
-    expect("no sheet of marks", answer_is(stagecheck_check(bytes(one), strlen(one), sheet, 1, NULL, 0, answer), 4, 0, 1));
+    expect("no sheet of marks",
+           answer_is(stagecheck_check(bytes(one), strlen(one), sheet, 1, NULL, 0, answer), 4, 0, 1));
     expect("the other sheet is zero", sheet[0] == 0);
     sheet[0] = 9;
     expect("no sheet of heights, lent tables",
@@ -57,7 +58,8 @@ static void check_room(void)
     uint8_t heights[1], blinds[1], whole[4096], part[4097];
     stagecheck_check(bytes(refused), strlen(refused), heights, 1, blinds, 1, answer);
     expect("the listing is refused", answer[0] == 5);
-    size_t length = stagecheck_explain(bytes(refused), strlen(refused), heights, 1, blinds, 1, answer, whole, sizeof whole);
+    size_t length =
+        stagecheck_explain(bytes(refused), strlen(refused), heights, 1, blinds, 1, answer, whole, sizeof whole);
     expect("the explanation has some bytes", length > 0 && length <= sizeof whole);
     for (size_t room = 0; room <= length && room <= sizeof whole; room++) {
         memset(part, 0xEE, sizeof part);
@@ -68,18 +70,32 @@ static void check_room(void)
     }
     expect("the explanation without sheets and listing ends",
            stagecheck_explain(NULL, 0, NULL, 0, NULL, 0, answer, NULL, 0) < sizeof whole);
-    length = stagecheck_name(6, whole, sizeof whole);
-    expect("the name", length == 17 && memcmp(whole, "OffsetOutOfBounds", 17) == 0);
+    expect("the line", stagecheck_line(bytes(refused), strlen(refused), answer) == 3);
+    expect("the line in no listing", stagecheck_line(NULL, 0, answer) == 0);
+}
+
+static int is_named(uint64_t number, const char *name)
+{
+    uint8_t given[64];
+    size_t length = stagecheck_name(number, given, sizeof given);
+    return length == strlen(name) && memcmp(given, name, length) == 0;
+}
+
+static void check_names(void)
+{
+    uint8_t part[8];
     memset(part, 0xEE, sizeof part);
     expect("the name in too little room", stagecheck_name(6, part, 6) == 17 && memcmp(part, "Offset\xEE", 7) == 0);
     expect("the name in no room", stagecheck_name(6, NULL, 0) == 17);
-    expect("the line", stagecheck_line(bytes(refused), strlen(refused), answer) == 3);
-    expect("the line in no listing", stagecheck_line(NULL, 0, answer) <= 1);
+    expect("the name of 6", is_named(6, "OffsetOutOfBounds"));
+    expect("the name of an acceptance", is_named(0, "accepted"));
+    expect("the name of no refusal", is_named(UINT64_MAX, "refusal 18446744073709551615"));
 }
 
 int main(void)
 {
     check_null();
     check_room();
+    check_names();
     return failed;
 }

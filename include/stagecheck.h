@@ -5,26 +5,27 @@
  * repository. The library needs memcpy and memset and nothing else. It is for x86-64 Linux alone, since the compiler
  * that proves it makes code for that alone.
  *
- * Two functions check a listing; they differ in where the tables are. Four turn a listing or an answer into words. All of
- * them allocate nothing, read and write nothing but what is lent, keep nothing between calls, and end for every input.
- * Calls from several threads are free of each other where what they lend is. What the answer, the sheets and the text are
- * for each listing is proved (docs/PROMISES.md); what follows here in words is document 01's.
+ * Two functions check a listing; they differ in where the tables are. Four turn a listing or an answer into words. All
+ * of them allocate nothing, read and write nothing but what is lent, keep nothing between calls, and end for every
+ * input. Calls from several threads are free of each other where what they lend is. What the answer, the sheets and
+ * the text are for each listing is proved (docs/PROMISES.md); what follows here in words is document 01's.
  *
- * Time: no limit of time is built in. Loops in loops multiply the passes of the walk, and a listing that keeps all limits
- * can keep a call busy practically for ever (docs/BENCH.md). A controller needs a limit of its own: a watchdog, or a
- * process that it can end. A later version brings one.
+ * Time: no limit of time is built in. Loops in loops multiply the passes of the walk, and a listing that keeps all
+ * limits can keep a call busy practically for ever (docs/BENCH.md). A controller needs a limit of its own: a watchdog,
+ * or a process that it can end. A later version brings one.
  *
- * Stack: allow 1 MiB. Measured, the whole program's: eight nested loops 396 KiB, with lent tables 224; eight nested Ifs 280
- * KiB, with lent tables 104 (docs/BENCH.md). Some C libraries give a thread less: musl 128 KiB, too little for any call with
- * tables of its own, and with lent ones for nested loops. Make such a thread with a larger stack. A stack that is too
- * small ends the program at the guard page: each frame touches its pages in turn, so that none passes over it.
+ * Stack: allow 1 MiB. Measured, the whole program's: eight nested loops 396 KiB, with lent tables 224; eight nested Ifs
+ * 280 KiB, with lent tables 104 (docs/BENCH.md). stagecheck_text has its tables on the stack too, and sheets: 404 and
+ * 288. Some C libraries give a thread less: musl 128 KiB, too little for any call with tables of its own, and with lent
+ * ones for nested loops. Make such a thread with a larger stack. A stack that is too small ends the program at the
+ * guard page: each frame touches its pages in turn, so that none passes over it.
  *
  * Pointers: the caller sees to it that
  *   - each pointer is good for its length; it may be null where the length is 0;
- *   - `answer`, `tables` and the `text` of stagecheck_text have a fixed length and are never null; `answer` and `tables`
- *     are aligned as uint64_t is;
- *   - what is written (sheets, answer, tables, text) overlaps nothing else that is lent, and nobody else writes to what is
- *     lent, or reads what is written, before the call returns.
+ *   - `answer`, `tables` and the `text` of stagecheck_text have a fixed length and are never null; `answer` and
+ *     `tables` are aligned as uint64_t is;
+ *   - what is written (sheets, answer, tables, text) overlaps nothing else that is lent, and nobody else writes to what
+ *     is lent, or reads what is written, before the call returns.
  */
 #ifndef STAGECHECK_H
 #define STAGECHECK_H
@@ -168,9 +169,9 @@ size_t stagecheck_check_in(const uint8_t *listing, size_t listing_length,
                            uint8_t *blinds, size_t blinds_length,
                            uint64_t *answer);
 
-/* Checks a listing with sheets of 4,096 entries and writes what the program of document 01 prints for it: `accepted CHUNKS
- * INSTRUCTIONS` and a line for each instruction, or `refused` and the refusal's numbers in one line; each line with its
- * LF. So the first byte tells the verdict: `a` or `r`.
+/* Checks a listing with sheets of 4,096 entries and writes what the program of document 01 prints for it: `accepted
+ * CHUNKS INSTRUCTIONS` and a line for each instruction, or `refused` and the refusal's numbers in one line; each line
+ * with its LF. So the first byte tells the verdict: `a` or `r`.
  *
  * text                       room for STAGECHECK_TEXT_BYTES bytes. Those past the text are of no account.
  *
@@ -202,8 +203,9 @@ size_t stagecheck_explain(const uint8_t *listing, size_t listing_length,
 size_t stagecheck_line(const uint8_t *listing, size_t listing_length,
                        const uint64_t *answer);
 
-/* The name of a refusal, as `OffsetOutOfBounds` for 6, without a zero byte at its end. As much is written as has room.
- * Returns how many bytes the whole name has, 0 for a number that is no refusal's.
+/* The name that goes with word 0 of an answer, without a zero byte at its end: `OffsetOutOfBounds` for 6, `accepted`
+ * for 0, and `refusal N` for a number N that has none. As much is written as has room. Returns how many bytes the whole
+ * name has. Safety is proved, the names are tested.
  */
 size_t stagecheck_name(uint64_t number, uint8_t *text, size_t text_length);
 

@@ -20,8 +20,6 @@ fn main() {
             return;
         }
     }
-    println!(
-        "cargo::error=no libstagecheck.a and no libstagecheck_c.a in {}: set STAGECHECK_LIB_DIR to PREFIX/lib, or run `rt staticlib stagecheck_c`",
-        folder.display()
-    );
+    let way = "set STAGECHECK_LIB_DIR to PREFIX/lib, or run `rt staticlib stagecheck_c`";
+    println!("cargo::error=no libstagecheck.a and no libstagecheck_c.a in {}: {way}", folder.display());
 }

@@ -30,14 +30,14 @@ impl Accepted {
         self.heights.len()
     }
 
-    /// For each instruction the number of operands before it, or none where the walk does not examine it. In every run of
-    /// the routine there are exactly so many.
+    /// For each instruction the number of operands before it, or none where the walk does not examine it. In every
+    /// run of the routine there are exactly so many.
     pub fn heights(&self) -> &[Option<u8>] {
         &self.heights
     }
 
-    /// For each instruction whether it is a flat read or a flat index of an operand of unknown shape. Flat reads that are not
-    /// so marked end inside their composite, in every run.
+    /// For each instruction whether it is a flat read or a flat index of an operand of unknown shape. Flat reads that
+    /// are not so marked end inside their composite, in every run.
     pub fn blind(&self) -> &[bool] {
         &self.blind
     }

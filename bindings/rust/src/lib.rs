@@ -1,7 +1,7 @@
 //! The typed check of Keleusma modules: decides a listing before it runs.
 //!
-//! [`check`] accepts or refuses any bytes. What it answers is proved equal to a definition; this package calls the static
-//! library and gives its numbers names.
+//! [`check`] accepts or refuses any bytes. What it answers is proved equal to a definition; this package calls the
+//! static library and gives its numbers names.
 //!
 //! ```
 //! let listing = b"(module 8 8 6 0 0 8 9
@@ -43,9 +43,10 @@
 //!
 //! # Time and stack
 //!
-//! A call always ends, but there is no limit of time: loops in loops multiply the passes of the walk, and a listing within all
-//! limits can keep a call busy practically for ever. Where listings come from strangers, call in a process that can be ended. A
-//! call needs up to 224 KiB of stack, measured; threads of Rust have 2 MiB unless told otherwise. The library is for x86-64 Linux.
+//! A call always ends, but there is no limit of time: loops in loops multiply the passes of the walk, and a listing
+//! within all limits can keep a call busy practically for ever. Where listings come from strangers, call in a process
+//! that can be ended. A call needs up to 224 KiB of stack, measured; threads of Rust have 2 MiB unless told
+//! otherwise. The library is for x86-64 Linux.
 
 // `forbid` at the root cannot be lifted for `sys`: so the root denies, and every other module forbids.
 #![deny(unsafe_code)]

@@ -6,8 +6,8 @@ use crate::sys::ANSWER_WORDS;
 use std::error::Error;
 use std::fmt;
 
-/// Why a listing is refused. Chunks, instructions (`ip`, within their chunk), entries and arguments are counted from 0. The
-/// variants stand in the order of their numbers, 1 to 19.
+/// Why a listing is refused. Chunks, instructions (`ip`, within their chunk), entries and arguments are counted from
+/// 0. The variants stand in the order of their numbers, 1 to 19.
 #[derive(Clone, Copy, Debug, PartialEq, Eq, Hash)]
 #[non_exhaustive]
 #[allow(missing_docs)] // The fields are said in their variant's sentence.
@@ -18,7 +18,8 @@ pub enum Refusal {
     LimitPassed { chunk: u64, ip: u64, limit: Limit },
     /// The instruction is the first that breaks a rule of nesting.
     NotNested { chunk: u64, ip: u64 },
-    /// A sheet of `length` entries is lent for more `instructions`. [`check`](crate::check) lends sheets that are long enough.
+    /// A sheet of `length` entries is lent for more `instructions`. [`check`](crate::check) lends sheets that are
+    /// long enough.
     SheetTooShort { instructions: u64, length: u64 },
     /// The instruction needs more operands than there are.
     StackUnderflow { chunk: u64, ip: u64 },
@@ -34,8 +35,8 @@ pub enum Refusal {
     BranchHeightMismatch { chunk: u64, ip: u64, then_height: u64, else_height: u64 },
     /// A loop's body begins at `entry_height` and ends at `exit_height`. `ip`: the Loop.
     LoopNotNeutral { chunk: u64, ip: u64, entry_height: u64, exit_height: u64 },
-    /// In a loop that was entered at height `floor`, an instruction that takes `required` operands finds `available`: it
-    /// would take some from below the floor.
+    /// In a loop that was entered at height `floor`, an instruction that takes `required` operands finds `available`:
+    /// it would take some from below the floor.
     LoopFloorBreach { chunk: u64, ip: u64, floor: u64, available: u64, required: u64 },
     /// A value of another shape is stored to the parameter `slot`.
     LocalTypeMismatch { chunk: u64, ip: u64, slot: u64 },
@@ -43,8 +44,8 @@ pub enum Refusal {
     CallArgMismatch { chunk: u64, ip: u64, callee: u64, arg: u64 },
     /// Elements of `element_size` bytes do not divide an array of `array_size`.
     ArrayStrideMismatch { chunk: u64, ip: u64, element_size: u64, array_size: u64 },
-    /// The shared entry `slot`, of `size` bytes from `offset` on, ends past the `buffer` shared bytes. `size` is 0 where
-    /// its kind is no scalar and no composite.
+    /// The shared entry `slot`, of `size` bytes from `offset` on, ends past the `buffer` shared bytes. `size` is 0
+    /// where its kind is no scalar and no composite.
     SharedSlotOutOfBounds { slot: u64, offset: u64, size: u64, buffer: u64 },
     /// A new enum says `baked` bytes, which no enum line allows.
     EnumBodySizeMismatch { chunk: u64, ip: u64, baked: u64 },
@@ -62,8 +63,8 @@ pub enum Refusal {
 pub enum Limit {
     /// The listing has more than 65,536 bytes.
     Bytes = 1,
-    /// A table is overfull: 256 each of slots, shared and private entries; 64 each of enums, natives, signatures and chunks;
-    /// 16 parameters of a signature; 1,024 constants and 4,096 instructions in all.
+    /// A table is overfull: 256 each of slots, shared and private entries; 64 each of enums, natives, signatures and
+    /// chunks; 16 parameters of a signature; 1,024 constants and 4,096 instructions in all.
     Table = 2,
     /// A chunk has more than 32 locals.
     Locals = 3,
@@ -165,7 +166,8 @@ impl Refusal {
         })
     }
 
-    /// Its number, its chunk (0 where none is at fault) and its values: what the program `stagecheck` prints after `refused`.
+    /// Its number, its chunk (0 where none is at fault) and its values: what the program `stagecheck` prints after
+    /// `refused`.
     pub fn numbers(&self) -> Vec<u64> {
         match *self {
             Refusal::CannotFollow { lines } => vec![1, 0, lines],

@@ -31,8 +31,8 @@ pub fn check_in(
     blinds: &mut [u8],
 ) -> ([u64; ANSWER_WORDS], usize) {
     let mut answer = [0; ANSWER_WORDS];
-    // SAFETY: pointers of slices and arrays are good for their lengths and aligned, and what is borrowed mutably overlaps
-    // nothing else and is seen by nobody else.
+    // SAFETY: pointers of slices and arrays are good for their lengths and aligned, and what is borrowed mutably
+    // overlaps nothing else and is seen by nobody else.
     let count = unsafe {
         stagecheck_check_in(
             listing.as_ptr(),
