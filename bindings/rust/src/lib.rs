@@ -41,6 +41,11 @@
 //! );
 //! ```
 //!
+//! # Where the library is found
+//!
+//! In the folder that the environment variable `STAGECHECK_LIB_DIR` names when this package is built, as `PREFIX/lib`
+//! after `./install PREFIX`; without it in the repository's target/staticlib. No other package is needed.
+//!
 //! # Time and stack
 //!
 //! A call always ends, but there is no limit of time: loops in loops multiply the passes of the walk, and a listing
