@@ -309,14 +309,15 @@ static bool read_listing(const char *name)
         return false;
     }
     listing_length = fread(listing, 1, sizeof listing, file);
-    int reason = ferror(file) ? errno : 0;
+    int reason = errno;
+    bool is_read = !ferror(file);
     if (!is_input) {
         fclose(file);
     }
-    if (reason != 0) {
+    if (!is_read) {
         complain(is_input ? "standard input" : name, strerror(reason));
     }
-    return reason == 0;
+    return is_read;
 }
 
 static enum status check_file(enum mode mode, const char *name, bool is_one_of_several)
