@@ -38,9 +38,11 @@ set-local-requires c κs =
 -- src/lib.rt:321:9
 returns : tie.Need-returns
 returns c =
-    let a = c .before .before .before .before .before .before .args in
-    (search needs, stepped-as (chunkOf (a .t .now) (a .x .chunk)) (a .x .locals) (a .ip) _ (stateOf (a .x .locals) (at (a .height) (a .slots .now) (a .places .now)))
-        _ _ _ (instrOf (a .i)) (is-set-local (a .i) (c .before .before .before .if1 .taken)) (c .set-local .ensures .1))
+    let a = c .before .before .before .before .before .before .args in (
+      search needs,
+      stepped-as (chunkOf (a .t .now) (a .x .chunk)) (a .x .locals) (a .ip) _ (stateOf (a .x .locals) (at (a .height) (a .slots .now) (a .places .now)))
+          _ _ _ (instrOf (a .i)) (is-set-local (a .i) (c .before .before .before .if1 .taken)) (c .set-local .ensures .1),
+    )
 
 -- src/lib.rt:323:9
 rule-of-requires : tie.Need-rule-of-requires
@@ -50,10 +52,11 @@ rule-of-requires c κs = (c .before .before .before .before .before .pre .0, (c 
 check-room-requires : tie.Need-check-room-requires
 check-room-requires c κs =
     let a = c .before .before .before .before .before .before .args in
-    let d = chunkOf (a .t .now) (a .x .chunk) in
-    (λ z. take-fits d (a .ip) (instrOf (a .i)) (stateOf (a .x .locals) (at (a .height) (a .slots .now) (a .places .now))) (c .rule-of .result) (a .e .need)
-        (a .height) (c .rule-of .ensures) z (effect-of (a .t .now) (a .x .chunk) (a .x) (a .i) (a .e) (c .before .before .before .before .before .before .pre .0) (c .before .before .before .before .before .before .pre .1 .2) .0) (c .before .before .before .before .before .before .pre .1 .3),
-        c .before .before .before .before .before .before .pre .1 .4)
+    let d = chunkOf (a .t .now) (a .x .chunk) in (
+      λ z. take-fits d (a .ip) (instrOf (a .i)) (stateOf (a .x .locals) (at (a .height) (a .slots .now) (a .places .now))) (c .rule-of .result) (a .e .need)
+          (a .height) (c .rule-of .ensures) z (effect-of (a .t .now) (a .x .chunk) (a .x) (a .i) (a .e) (c .before .before .before .before .before .before .pre .0) (c .before .before .before .before .before .before .pre .1 .2) .0) (c .before .before .before .before .before .before .pre .1 .3),
+      c .before .before .before .before .before .before .pre .1 .4,
+    )
 
 enum-told : tie.Need-enum-told
 enum-told c = search needs
@@ -93,10 +96,14 @@ replace-requires : tie.Need-replace-requires
 replace-requires c κs =
     let a = c .before .before .before .before .before .before .before .before .before .before .before .before .before .before .before .args in
     let d = chunkOf (a .t .now) (a .x .chunk) in
-    let z = c .before .before .before .before .before .before .before .before .check-room .ensures .room (is-none-eq _ (sym (passed-yes _ (c .before .before .before .before .before .before .enum-told .given .1)))) in
-    (c .before .before .before .before .before .before .before .before .before .before .before .before .before .before .before .pre .1 .0, take-fits d (a .ip) (instrOf (a .i)) (stateOf (a .x .locals) (at (a .height) (a .slots .now) (a .places .now))) (c .before .before .before .before .before .before .before .before .before .rule-of .result)
-        (a .e .need) (a .height) (c .before .before .before .before .before .before .before .before .before .rule-of .ensures) (z .0) (effect-of (a .t .now) (a .x .chunk) (a .x) (a .i) (a .e) (c .before .before .before .before .before .before .before .before .before .before .before .before .before .before .before .pre .0) (c .before .before .before .before .before .before .before .before .before .before .before .before .before .before .before .pre .1 .2) .0)
-        (c .before .before .before .before .before .before .before .before .before .before .before .before .before .before .before .pre .1 .3), c .before .before .before .before .before .before .before .before .before .before .before .before .before .before .before .pre .1 .4, omega (arith, z .1, c .before .before .before .before .count .ensures .0, c .before .before .before .count2 .ensures .0))
+    let z = c .before .before .before .before .before .before .before .before .check-room .ensures .room (is-none-eq _ (sym (passed-yes _ (c .before .before .before .before .before .before .enum-told .given .1)))) in (
+      c .before .before .before .before .before .before .before .before .before .before .before .before .before .before .before .pre .1 .0,
+      take-fits d (a .ip) (instrOf (a .i)) (stateOf (a .x .locals) (at (a .height) (a .slots .now) (a .places .now))) (c .before .before .before .before .before .before .before .before .before .rule-of .result)
+          (a .e .need) (a .height) (c .before .before .before .before .before .before .before .before .before .rule-of .ensures) (z .0) (effect-of (a .t .now) (a .x .chunk) (a .x) (a .i) (a .e) (c .before .before .before .before .before .before .before .before .before .before .before .before .before .before .before .pre .0) (c .before .before .before .before .before .before .before .before .before .before .before .before .before .before .before .pre .1 .2) .0)
+          (c .before .before .before .before .before .before .before .before .before .before .before .before .before .before .before .pre .1 .3),
+      c .before .before .before .before .before .before .before .before .before .before .before .before .before .before .before .pre .1 .4,
+      omega (arith, z .1, c .before .before .before .before .count .ensures .0, c .before .before .before .count2 .ensures .0),
+    )
 
 -- src/lib.rt:306:1
 returns-3 : tie.Need-returns-3
@@ -109,8 +116,8 @@ returns-3 c =
         result = settled (chunkOf (a .t .now) (a .x .chunk)) (instrOf (a .i)) (a .x .locals) (a .ip) (at (a .height) (a .slots .now) (a .places .now))
             (c .before .before .before .before .before .before .before .before .before .before .rule-of .result) (c .before .before .before .before .before .before .before .before .before .before .rule-of .ensures) (c .before .before .before .before .before .before .before .before .before .check-room .result) (c .before .before .before .before .before .before .before .before .before .check-room .ensures) _ _ _ z (c .before .before .before .before .before .count .ensures .0) (c .before .before .before .before .count2 .ensures .0)
             (c .replace .ensures .2 (a .x .locals) (locals-fit _ _ _ (c .before .before .before .before .before .before .before .before .before .before .before .before .before .before .before .before .pre .0)) ∙ ap (λ (w : AnyShape). replaced (c .before .before .before .before .before .before .before .before .before .before .rule-of .result .take) (valueOf
-                (c .before .before .before .before .before .before .before .before .before .before .rule-of .result .value)) (c .before .before .before .before .before .count .result) w (c .before .before .before .before .count2 .result) (stateOf (a .x .locals) (at (a .height) (a .slots .now) (a .places .now))))
-                (c .before .before .before .scalar-value .ensures));
+            (c .before .before .before .before .before .before .before .before .before .before .rule-of .result .value)) (c .before .before .before .before .before .count .result) w (c .before .before .before .before .count2 .result) (stateOf (a .x .locals) (at (a .height) (a .slots .now) (a .places .now))))
+            (c .before .before .before .scalar-value .ensures));
         blind = c .before .before .before .before .before .before .before .before .before .before .rule-of .ensures .blind;
         low = omega (arith, c .replace .ensures .1, c .before .before .before .before .before .before .before .before .before .check-room .ensures .room z .1, c .before .before .before .before .before .count .ensures .0, c .before .before .before .before .count2 .ensures .0);
       },

@@ -50,15 +50,28 @@ same-length-2 c = search needs
 
 -- src/lib.rt:69:13
 returns : tie.Need-returns Inv-loop μ-loop
-returns c =
-    (c .before .before .before .before .loop .inv .2, running-block (c .before .before .before .before .before .before .before .before .args .t .now) (c .before .before .before .before .before .before .before .before .args .x) (c .before .before .before .before .before .before .before .before .pre .0) (c .before .before .before .before .before .before .before .before .args .start) (c .before .before .before .before .before .before .before .before .args .end) (c .before .before .before .before .before .before .before .before .args .floor) _ _ (c .before .before .before .before .loop .ip) _ _ (c .before .before .before .before .loop .inv .3) (c .before .before .before .loop-test .taken) _ (c .before .before .instr-at .ensures) (sym (c .before .is-straight .ensures) ∙
-    c .if1 .left))
+returns c = (
+  c .before .before .before .before .loop .inv .2,
+  running-block (c .before .before .before .before .before .before .before .before .args .t .now) (c .before .before .before .before .before .before .before .before .args .x) (c .before .before .before .before .before .before .before .before .pre .0) (c .before .before .before .before .before .before .before .before .args .start) (c .before .before .before .before .before .before .before .before .args .end) (c .before .before .before .before .before .before .before .before .args .floor) _ _ (c .before .before .before .before .loop .ip) _ _ (c .before .before .before .before .loop .inv .3) (c .before .before .before .loop-test .taken) _ (c .before .before .instr-at .ensures) (sym (c .before .is-straight .ensures) ∙
+      c .if1 .left),
+)
 
 -- src/lib.rt:75:13
 examine-requires : tie.Need-examine-requires Inv-loop μ-loop
-examine-requires c κs =
-    (c .before .before .before .before .before .before .before .before .before .before .pre .0, (c .before .before .before .before .before .before .loop .inv .2, record { code-low = c .before .before .before .before .instr-at .ensures .code-low; a-low = c .before .before .before .before .instr-at .ensures .a-low; b-low = c .before .before .before .before .instr-at .ensures .b-low;
-    c-low = c .before .before .before .before .instr-at .ensures .c-low }, c .before .before .before .before .before .before .before .before .before .before .pre .1 .5, c .before .before .before .before .before .before .loop .inv .3 .low))
+examine-requires c κs = (
+  c .before .before .before .before .before .before .before .before .before .before .pre .0,
+  (
+    c .before .before .before .before .before .before .loop .inv .2,
+    record {
+      code-low = c .before .before .before .before .instr-at .ensures .code-low;
+      a-low = c .before .before .before .before .instr-at .ensures .a-low;
+      b-low = c .before .before .before .before .instr-at .ensures .b-low;
+      c-low = c .before .before .before .before .instr-at .ensures .c-low;
+    },
+    c .before .before .before .before .before .before .before .before .before .before .pre .1 .5,
+    c .before .before .before .before .before .before .loop .inv .3 .low,
+  ),
+)
 
 enum-told : tie.Need-enum-told Inv-loop μ-loop
 enum-told c = search needs
@@ -77,9 +90,11 @@ same-length-4 c = search needs
 
 -- src/lib.rt:78:13
 returns-2 : tie.Need-returns-2 Inv-loop μ-loop
-returns-2 c =
-    (c .before .before .examine .ensures .0, running-refused (c .before .before .before .before .before .before .before .before .before .before .before .before .before .args .t .now) (c .before .before .before .before .before .before .before .before .before .before .before .before .before .args .x) (c .before .before .before .before .before .before .before .before .before .before .before .before .before .pre .0) (c .before .before .before .before .before .before .before .before .before .before .before .before .before .args .start) (c .before .before .before .before .before .before .before .before .before .before .before .before .before .args .end) (c .before .before .before .before .before .before .before .before .before .before .before .before .before .args .floor) _ _ (c .before .before .before .before .before .before .before .before .before .loop .ip) _ _ (c .before .before .before .before .before .before .before .before .before .loop .inv .3) (c .before .before .before .before .before .before .before .before .loop-test .taken) _ (c .before .before .before .before .before .before .before .instr-at .ensures) (sym (c .before .before .before .before .before .before .is-straight .ensures) ∙ c .before .before .before .before .before .if1 .taken) _ _ _
-    (c .before .before .examine .ensures .1) (sym (passed-no _ (c .enum-told2 .given .1))) _)
+returns-2 c = (
+  c .before .before .examine .ensures .0,
+  running-refused (c .before .before .before .before .before .before .before .before .before .before .before .before .before .args .t .now) (c .before .before .before .before .before .before .before .before .before .before .before .before .before .args .x) (c .before .before .before .before .before .before .before .before .before .before .before .before .before .pre .0) (c .before .before .before .before .before .before .before .before .before .before .before .before .before .args .start) (c .before .before .before .before .before .before .before .before .before .before .before .before .before .args .end) (c .before .before .before .before .before .before .before .before .before .before .before .before .before .args .floor) _ _ (c .before .before .before .before .before .before .before .before .before .loop .ip) _ _ (c .before .before .before .before .before .before .before .before .before .loop .inv .3) (c .before .before .before .before .before .before .before .before .loop-test .taken) _ (c .before .before .before .before .before .before .before .instr-at .ensures) (sym (c .before .before .before .before .before .before .is-straight .ensures) ∙ c .before .before .before .before .before .if1 .taken) _ _ _
+      (c .before .before .examine .ensures .1) (sym (passed-no _ (c .enum-told2 .given .1))) _,
+)
 
 -- src/lib.rt:84:31
 add-mark : tie.Need-add-mark Inv-loop μ-loop
@@ -87,9 +102,17 @@ add-mark c = search needs
 
 -- src/lib.rt:84:9
 mark-requires : tie.Need-mark-requires Inv-loop μ-loop
-mark-requires c κs =
-    (omega (arith, c .before .before .before .before .before .before .before .before .before .before .loop-test .taken, c .before .before .before .before .before .before .before .before .before .before .before .before .before .before .before .pre .1 .4, c .before .before .before .before .before .before .before .before .before .before .before .before .before .before .before .pre .1 .0, c .before .before .before .before .before .before .before .before .before .before .before .loop .inv .0), omega (arith, c .before .before .before .before .before .before .before .before .before .before .loop-test .taken, c .before .before .before .before .before .before .before .before .before .before .before .before .before .before .before .pre .1 .4, c .before .before .before .before .before .before .before .before .before .before .before .before .before .before .before .pre .1 .1,
-    c .before .before .before .before .before .before .before .before .before .before .before .loop .inv .1), c .before .before .before .before .before .before .before .before .before .before .before .loop .inv .3 .low)
+mark-requires c κs = (
+  omega (arith, c .before .before .before .before .before .before .before .before .before .before .loop-test .taken, c .before .before .before .before .before .before .before .before .before .before .before .before .before .before .before .pre .1 .4, c .before .before .before .before .before .before .before .before .before .before .before .before .before .before .before .pre .1 .0, c .before .before .before .before .before .before .before .before .before .before .before .loop .inv .0),
+  omega (
+    arith,
+    c .before .before .before .before .before .before .before .before .before .before .loop-test .taken,
+    c .before .before .before .before .before .before .before .before .before .before .before .before .before .before .before .pre .1 .4,
+    c .before .before .before .before .before .before .before .before .before .before .before .before .before .before .before .pre .1 .1,
+    c .before .before .before .before .before .before .before .before .before .before .before .loop .inv .1,
+  ),
+  c .before .before .before .before .before .before .before .before .before .before .before .loop .inv .3 .low,
+)
 
 -- src/lib.rt:86:9
 add-ip : tie.Need-add-ip Inv-loop μ-loop
@@ -101,9 +124,13 @@ loop-less c = search needs
 
 -- src/lib.rt:65:5
 loop-again : tie.Need-loop-again Inv-loop μ-loop
-loop-again c =
-    (search needs, search needs, c .before .before .before .before .before .before .before .before .before .examine .ensures .0, running-on (c .before .before .before .before .before .before .before .before .before .before .before .before .before .before .before .before .before .before .before .before .args .t .now) (c .before .before .before .before .before .before .before .before .before .before .before .before .before .before .before .before .before .before .before .before .args .x) (c .before .before .before .before .before .before .before .before .before .before .before .before .before .before .before .before .before .before .before .before .pre .0) (c .before .before .before .before .before .before .before .before .before .before .before .before .before .before .before .before .before .before .before .before .args .start) (c .before .before .before .before .before .before .before .before .before .before .before .before .before .before .before .before .before .before .before .before .args .end) (c .before .before .before .before .before .before .before .before .before .before .before .before .before .before .before .before .before .before .before .before .args .floor) _ _ (c .before .before .before .before .before .before .before .before .before .before .before .before .before .before .before .before .loop .ip) _ _ (c .before .before .before .before .before .before .before .before .before .before .before .before .before .before .before .before .loop .inv .3) (c .before .before .before .before .before .before .before .before .before .before .before .before .before .before .before .loop-test .taken) _ (c .before .before .before .before .before .before .before .before .before .before .before .before .before .before .instr-at .ensures)
-    (sym (c .before .before .before .before .before .before .before .before .before .before .before .before .before .is-straight .ensures) ∙ c .before .before .before .before .before .before .before .before .before .before .before .before .if1 .taken) _ _ _ (c .before .before .before .before .before .before .before .before .before .examine .ensures .1) (sym (passed-yes _ (c .before .before .before .before .before .before .before .enum-told .given .1))) _ (c .before .before .before .before .mark .ensures))
+loop-again c = (
+  search needs,
+  search needs,
+  c .before .before .before .before .before .before .before .before .before .examine .ensures .0,
+  running-on (c .before .before .before .before .before .before .before .before .before .before .before .before .before .before .before .before .before .before .before .before .args .t .now) (c .before .before .before .before .before .before .before .before .before .before .before .before .before .before .before .before .before .before .before .before .args .x) (c .before .before .before .before .before .before .before .before .before .before .before .before .before .before .before .before .before .before .before .before .pre .0) (c .before .before .before .before .before .before .before .before .before .before .before .before .before .before .before .before .before .before .before .before .args .start) (c .before .before .before .before .before .before .before .before .before .before .before .before .before .before .before .before .before .before .before .before .args .end) (c .before .before .before .before .before .before .before .before .before .before .before .before .before .before .before .before .before .before .before .before .args .floor) _ _ (c .before .before .before .before .before .before .before .before .before .before .before .before .before .before .before .before .loop .ip) _ _ (c .before .before .before .before .before .before .before .before .before .before .before .before .before .before .before .before .loop .inv .3) (c .before .before .before .before .before .before .before .before .before .before .before .before .before .before .before .loop-test .taken) _ (c .before .before .before .before .before .before .before .before .before .before .before .before .before .before .instr-at .ensures)
+      (sym (c .before .before .before .before .before .before .before .before .before .before .before .before .before .is-straight .ensures) ∙ c .before .before .before .before .before .before .before .before .before .before .before .before .if1 .taken) _ _ _ (c .before .before .before .before .before .before .before .before .before .examine .ensures .1) (sym (passed-yes _ (c .before .before .before .before .before .before .before .enum-told .given .1))) _ (c .before .before .before .before .mark .ensures),
+)
 
 -- src/lib.rt:46:1
 same-length-5 : tie.Need-same-length-5 Inv-loop μ-loop

@@ -195,9 +195,23 @@ block-at-leaf-at-requires : (t : ℕ) → block-at-lts.Need-leaf-at-requires (
   leaf-at-reads.Asked,
   leaf-at-reads.Learnt,
 ) (block-at-at t) block-at.Post
-block-at-leaf-at-requires t c κs =
-    (c .before .before .before .before .before .before .before .before .before .before .pre .1 .0 .placed, (c .before .before .before .before .before .before .before .before .before .before .pre .1 .1 .0, (Cycle.inside (c .before .before .before .before .before .before .before .before .before .before .args .t .now) (c .before .before .before .before .before .before .before .before .before .before .args .heights .now) (c .before .before .before .before .before .before .before .before .before .before .args .blinds .now) (c .before .before .before .before .before .before .before .before .before .before .args .x) (c .before .before .before .before .before .before .before .before .before .before .args .ip) (c .before .before .before .before .before .before .before .before .before .before .args .end) (c .before .before .before .before .before .before .before .before .before .before .args .floor) _ _ (c .before .before .before .before .before .before .before .before .before .before .pre .1 .0) (c .before .before .before .before .before .before .before .before .before .before .pre .1 .1 .1 .0), c .before .before .before .before .before .before .before .before .before .before .pre .1 .0 .floor-low, c .before .before .before .before .before .before .before .before .before .before .pre .1 .0 .height-low,
-    c .before .before .before .before .before .before .before .before .before .before .pre .1 .0 .breaks-low, c .before .before .before .before .before .before .before .before .before .before .pre .1 .1 .1 .1, c .before .before .before .before .before .before .before .before .before .before .pre .1 .1 .1 .2, c .before .before .before .before .before .before .match .rest .1, c .before .before .before .before .before .before .match .rest .0 .1, c .before .before .before .before .before .before .before .before .before .before .pre .1 .1 .1 .3)))
+block-at-leaf-at-requires t c κs = (
+  c .before .before .before .before .before .before .before .before .before .before .pre .1 .0 .placed,
+  (
+    c .before .before .before .before .before .before .before .before .before .before .pre .1 .1 .0,
+    (
+      Cycle.inside (c .before .before .before .before .before .before .before .before .before .before .args .t .now) (c .before .before .before .before .before .before .before .before .before .before .args .heights .now) (c .before .before .before .before .before .before .before .before .before .before .args .blinds .now) (c .before .before .before .before .before .before .before .before .before .before .args .x) (c .before .before .before .before .before .before .before .before .before .before .args .ip) (c .before .before .before .before .before .before .before .before .before .before .args .end) (c .before .before .before .before .before .before .before .before .before .before .args .floor) _ _ (c .before .before .before .before .before .before .before .before .before .before .pre .1 .0) (c .before .before .before .before .before .before .before .before .before .before .pre .1 .1 .1 .0),
+      c .before .before .before .before .before .before .before .before .before .before .pre .1 .0 .floor-low,
+      c .before .before .before .before .before .before .before .before .before .before .pre .1 .0 .height-low,
+      c .before .before .before .before .before .before .before .before .before .before .pre .1 .0 .breaks-low,
+      c .before .before .before .before .before .before .before .before .before .before .pre .1 .1 .1 .1,
+      c .before .before .before .before .before .before .before .before .before .before .pre .1 .1 .1 .2,
+      c .before .before .before .before .before .before .match .rest .1,
+      c .before .before .before .before .before .before .match .rest .0 .1,
+      c .before .before .before .before .before .before .before .before .before .before .pre .1 .1 .1 .3,
+    ),
+  ),
+)
 
 -- src/lib.rt:121:1
 block-at-same-length : (t : ℕ) → block-at-lts.Need-same-length (
@@ -231,9 +245,13 @@ block-at-returns : (t : ℕ) → block-at-lts.Need-returns (
   leaf-at-reads.Learnt,
 ) (block-at-at t) block-at.Post
 unfolding leads
-block-at-returns t c =
-    (c .before .before .before .before .loop-at .ensures .0, c .before .before .before .before .loop-at .ensures .1, c .before .before .before .before .loop-at .ensures .2 ∙ ap (λ (k : ℕ). Visits.visitIn (c .before .before .before .before .before .before .before .before .before .before .before .before .before .before .before .args .t .now) (c .before .before .before .before .before .before .before .before .before .before .before .before .before .before .before .args .x) (c .before .before .before .before .before .before .before .before .before .before .before .before .before .before .before .args .ip) (c .before .before .before .before .before .before .before .before .before .before .before .before .before .before .before .args .end) (c .before .before .before .before .before .before .before .before .before .before .before .before .before .before .before .args .floor) (at (c .before .before .before .before .before .before .before .before .before .before .before .before .before .before .before .args .height) (c .before .before .before .before .before .before .before .before .before .before .before .before .before .before .before .args .slots .now) (c .before .before .before .before .before .before .before .before .before .before .before .before .before .before .before .args .places .now)) (breaksIn (c .before .before .before .before .before .before .before .before .before .before .before .before .before .before .before .args .b) (c .before .before .before .before .before .before .before .before .before .before .before .before .before .before .before .args .broken .now) (c .before .before .before .before .before .before .before .before .before .before .before .before .before .before .before .args .held .now)) (sheetsOf (c .before .before .before .before .before .before .before .before .before .before .before .before .before .before .before .args .heights .now)
-    (c .before .before .before .before .before .before .before .before .before .before .before .before .before .before .before .args .blinds .now)) (leads k (c .before .before .before .before .before .before .before .before .before .before .before .before .before .before .before .args .target))) (sym (c .before .before .before .before .before .before .before .before .before .before .before .match .keys1)), c .before .before .before .before .loop-at .ensures .3)
+block-at-returns t c = (
+  c .before .before .before .before .loop-at .ensures .0,
+  c .before .before .before .before .loop-at .ensures .1,
+  c .before .before .before .before .loop-at .ensures .2 ∙ ap (λ (k : ℕ). Visits.visitIn (c .before .before .before .before .before .before .before .before .before .before .before .before .before .before .before .args .t .now) (c .before .before .before .before .before .before .before .before .before .before .before .before .before .before .before .args .x) (c .before .before .before .before .before .before .before .before .before .before .before .before .before .before .before .args .ip) (c .before .before .before .before .before .before .before .before .before .before .before .before .before .before .before .args .end) (c .before .before .before .before .before .before .before .before .before .before .before .before .before .before .before .args .floor) (at (c .before .before .before .before .before .before .before .before .before .before .before .before .before .before .before .args .height) (c .before .before .before .before .before .before .before .before .before .before .before .before .before .before .before .args .slots .now) (c .before .before .before .before .before .before .before .before .before .before .before .before .before .before .before .args .places .now)) (breaksIn (c .before .before .before .before .before .before .before .before .before .before .before .before .before .before .before .args .b) (c .before .before .before .before .before .before .before .before .before .before .before .before .before .before .before .args .broken .now) (c .before .before .before .before .before .before .before .before .before .before .before .before .before .before .before .args .held .now)) (sheetsOf (c .before .before .before .before .before .before .before .before .before .before .before .before .before .before .before .args .heights .now)
+      (c .before .before .before .before .before .before .before .before .before .before .before .before .before .before .before .args .blinds .now)) (leads k (c .before .before .before .before .before .before .before .before .before .before .before .before .before .before .before .args .target))) (sym (c .before .before .before .before .before .before .before .before .before .before .before .match .keys1)),
+  c .before .before .before .before .loop-at .ensures .3,
+)
 
 -- src/lib.rt:121:1
 block-at-same-length-3 : (t : ℕ) → block-at-lts.Need-same-length-3 (
@@ -267,9 +285,13 @@ block-at-returns-2 : (t : ℕ) → block-at-lts.Need-returns-2 (
   leaf-at-reads.Learnt,
 ) (block-at-at t) block-at.Post
 unfolding leads
-block-at-returns-2 t c =
-    (c .before .before .before .before .if-at .ensures .0, c .before .before .before .before .if-at .ensures .1, c .before .before .before .before .if-at .ensures .2 ∙ ap (λ (k : ℕ). Visits.visitIn (c .before .before .before .before .before .before .before .before .before .before .before .before .before .before .before .args .t .now) (c .before .before .before .before .before .before .before .before .before .before .before .before .before .before .before .args .x) (c .before .before .before .before .before .before .before .before .before .before .before .before .before .before .before .args .ip) (c .before .before .before .before .before .before .before .before .before .before .before .before .before .before .before .args .end) (c .before .before .before .before .before .before .before .before .before .before .before .before .before .before .before .args .floor) (at (c .before .before .before .before .before .before .before .before .before .before .before .before .before .before .before .args .height) (c .before .before .before .before .before .before .before .before .before .before .before .before .before .before .before .args .slots .now) (c .before .before .before .before .before .before .before .before .before .before .before .before .before .before .before .args .places .now)) (breaksIn (c .before .before .before .before .before .before .before .before .before .before .before .before .before .before .before .args .b) (c .before .before .before .before .before .before .before .before .before .before .before .before .before .before .before .args .broken .now) (c .before .before .before .before .before .before .before .before .before .before .before .before .before .before .before .args .held .now)) (sheetsOf (c .before .before .before .before .before .before .before .before .before .before .before .before .before .before .before .args .heights .now)
-    (c .before .before .before .before .before .before .before .before .before .before .before .before .before .before .before .args .blinds .now)) (leads k (c .before .before .before .before .before .before .before .before .before .before .before .before .before .before .before .args .target))) (sym (c .before .before .before .before .before .before .before .before .before .before .before .match .keys2)), c .before .before .before .before .if-at .ensures .3)
+block-at-returns-2 t c = (
+  c .before .before .before .before .if-at .ensures .0,
+  c .before .before .before .before .if-at .ensures .1,
+  c .before .before .before .before .if-at .ensures .2 ∙ ap (λ (k : ℕ). Visits.visitIn (c .before .before .before .before .before .before .before .before .before .before .before .before .before .before .before .args .t .now) (c .before .before .before .before .before .before .before .before .before .before .before .before .before .before .before .args .x) (c .before .before .before .before .before .before .before .before .before .before .before .before .before .before .before .args .ip) (c .before .before .before .before .before .before .before .before .before .before .before .before .before .before .before .args .end) (c .before .before .before .before .before .before .before .before .before .before .before .before .before .before .before .args .floor) (at (c .before .before .before .before .before .before .before .before .before .before .before .before .before .before .before .args .height) (c .before .before .before .before .before .before .before .before .before .before .before .before .before .before .before .args .slots .now) (c .before .before .before .before .before .before .before .before .before .before .before .before .before .before .before .args .places .now)) (breaksIn (c .before .before .before .before .before .before .before .before .before .before .before .before .before .before .before .args .b) (c .before .before .before .before .before .before .before .before .before .before .before .before .before .before .before .args .broken .now) (c .before .before .before .before .before .before .before .before .before .before .before .before .before .before .before .args .held .now)) (sheetsOf (c .before .before .before .before .before .before .before .before .before .before .before .before .before .before .before .args .heights .now)
+      (c .before .before .before .before .before .before .before .before .before .before .before .before .before .before .before .args .blinds .now)) (leads k (c .before .before .before .before .before .before .before .before .before .before .before .before .before .before .before .args .target))) (sym (c .before .before .before .before .before .before .before .before .before .before .before .match .keys2)),
+  c .before .before .before .before .if-at .ensures .3,
+)
 
 -- src/lib.rt:121:1
 block-at-same-length-5 : (t : ℕ) → block-at-lts.Need-same-length-5 (
@@ -302,9 +324,20 @@ block-at-returns-3 : (t : ℕ) → block-at-lts.Need-returns-3 (
   leaf-at-reads.Asked,
   leaf-at-reads.Learnt,
 ) (block-at-at t) block-at.Post
-block-at-returns-3 t c =
-    (c .before .before .before .before .before .before .before .before .before .before .before .before .before .before .before .pre .1 .1 .0 .0, c .before .before .before .before .leaf-at .ensures .0, sym (c .before .before .before .before .leaf-at .ensures .1 (c .before .before .before .before .before .before .before .before .before .before .before .before .before .before .before .args .end)), (omega (arith, c .before .before .before .before .leaf-at .ensures .2 .0), omega (arith, c .before .before .before .before .leaf-at .ensures .2 .0,
-    (c .before .before .before .before .before .before .before .before .before .before .before .before .before .before .before .pre .1 .1 .1 .0)), c .before .before .before .before .leaf-at .ensures .2 .1))
+block-at-returns-3 t c = (
+  c .before .before .before .before .before .before .before .before .before .before .before .before .before .before .before .pre .1 .1 .0 .0,
+  c .before .before .before .before .leaf-at .ensures .0,
+  sym (c .before .before .before .before .leaf-at .ensures .1 (c .before .before .before .before .before .before .before .before .before .before .before .before .before .before .before .args .end)),
+  (
+    omega (arith, c .before .before .before .before .leaf-at .ensures .2 .0),
+    omega (
+      arith,
+      c .before .before .before .before .leaf-at .ensures .2 .0,
+      (c .before .before .before .before .before .before .before .before .before .before .before .before .before .before .before .pre .1 .1 .1 .0),
+    ),
+    c .before .before .before .before .leaf-at .ensures .2 .1,
+  ),
+)
 
 -- src/lib.rt:223:9
 if-at-guard-at-requires : (t : ℕ) → if-at-lts.Need-guard-at-requires (
@@ -319,9 +352,14 @@ if-at-guard-at-requires : (t : ℕ) → if-at-lts.Need-guard-at-requires (
   two-arms-below t,
   two-arms.Post,
 ) (if-at-at t) if-at.Post
-if-at-guard-at-requires t c κs =
-    (c .before .before .before .before .pre .1 .0 .placed .heights-long, c .before .before .before .before .pre .1 .0 .placed .of .within, Cycle.inside (c .before .before .before .before .args .t .now) (c .before .before .before .before .args .heights .now) (c .before .before .before .before .args .blinds .now) (c .before .before .before .before .args .x) (c .before .before .before .before .args .ip) (c .before .before .before .before .args .end) (c .before .before .before .before .args .floor) _ _ (c .before .before .before .before .pre .1 .0) (c .before .before .before .before .pre .1 .1 .1 .0), c .before .before .before .before .pre .1 .0 .floor-low,
-    c .before .before .before .before .pre .1 .0 .height-low, omega arith)
+if-at-guard-at-requires t c κs = (
+  c .before .before .before .before .pre .1 .0 .placed .heights-long,
+  c .before .before .before .before .pre .1 .0 .placed .of .within,
+  Cycle.inside (c .before .before .before .before .args .t .now) (c .before .before .before .before .args .heights .now) (c .before .before .before .before .args .blinds .now) (c .before .before .before .before .args .x) (c .before .before .before .before .args .ip) (c .before .before .before .before .args .end) (c .before .before .before .before .args .floor) _ _ (c .before .before .before .before .pre .1 .0) (c .before .before .before .before .pre .1 .1 .1 .0),
+  c .before .before .before .before .pre .1 .0 .floor-low,
+  c .before .before .before .before .pre .1 .0 .height-low,
+  omega arith,
+)
 
 if-at-enum-told : (t : ℕ) → if-at-lts.Need-enum-told (
   guard-at-reads.Asked,
@@ -395,11 +433,22 @@ if-at-returns : (t : ℕ) → if-at-lts.Need-returns (
   two-arms-below t,
   two-arms.Post,
 ) (if-at-at t) if-at.Post
-if-at-returns t c =
-    (c .before .before .before .before .before .before .before .before .before .before .pre .1 .1 .0 .0, c .before .before .before .before .before .before .before .before .before .before .pre .1 .1 .0 .1, sym (Steps.visit-refused (c .before .before .before .before .before .before .before .before .before .before .args .t .now) (c .before .before .before .before .before .before .before .before .before .before .args .x) (c .before .before .before .before .before .before .before .before .before .before .args .ip) (c .before .before .before .before .before .before .before .before .before .before .args .floor) (at (c .before .before .before .before .before .before .before .before .before .before .args .height) (c .before .before .before .before .before .before .before .before .before .before .args .slots .now) (c .before .before .before .before .before .before .before .before .before .before .args .places .now)) (breaksIn (c .before .before .before .before .before .before .before .before .before .before .args .b) (c .before .before .before .before .before .before .before .before .before .before .args .broken .now) (c .before .before .before .before .before .before .before .before .before .before .args .held .now)) _ (Guards.guardedStep (c .before .before .before .before .before .guard-at .result) 1 (at (c .before .before .before .before .before .before .before .before .before .before .args .height) (c .before .before .before .before .before .before .before .before .before .before .args .slots .now) (c .before .before .before .before .before .before .before .before .before .before .args .places .now))) (Guards.guard-examined (c .before .before .before .before .before .before .before .before .before .before .args .t .now) (c .before .before .before .before .before .before .before .before .before .before .args .x) (c .before .before .before .before .before .before .before .before .before .before .args .ip) (c .before .before .before .before .before .before .before .before .before .before .args .floor) (at (c .before .before .before .before .before .before .before .before .before .before .args .height) (c .before .before .before .before .before .before .before .before .before .before .args .slots .now) (c .before .before .before .before .before .before .before .before .before .before .args .places .now)) 1 _ _ (c .before .before .before .before .before .guard-at .result) (c .before .before .before .before .before .guard-at .ensures) (c .before .before .before .before .before .before .before .before .before .before .pre .1 .1 .1 .1) tt (Guards.one-needed (Visits.chunkIn (c .before .before .before .before .before .before .before .before .before .before .args .t .now) (c .before .before .before .before .before .before .before .before .before .before .args .x)) (Visits.instrIn (c .before .before .before .before .before .before .before .before .before .before .args .t .now) (c .before .before .before .before .before .before .before .before .before .before .args .x) (c .before .before .before .before .before .before .before .before .before .before .args .ip)) (c .before .before .before .before .before .before .before .before .before .before .pre .1 .1 .1 .1) refl tt) (c .before .before .before .before .before .before .before .before .before .before .pre .1 .0 .height-low)) (ifTo (c .before .before .before .before .before .before .before .before .before .before .args .target))
-    tt (sym (passed-no _ (c .before .enum-told2 .given .1))) (c .before .before .before .before .before .before .before .before .before .before .args .end) (onwardIn (c .refused-at .result) (c .before .before .before .before .before .before .before .before .before .before .args .slots .now) (c .before .before .before .before .before .before .before .before .before .before .args .places .now) (c .before .before .before .before .before .before .before .before .before .before .args .broken .now) (c .before .before .before .before .before .before .before .before .before .before .args .held .now)) _
-    (c .refused-at .ensures .1)), (omega (arith, c .refused-at .ensures .0), omega (arith, c .refused-at .ensures .0, (c .before .before .before .before .before .before .before .before .before .before .pre .1 .1 .1 .0)), (subst (λ (z : ℕ). z ≤ 64) (sym
-    (c .refused-at .ensures .2)) (c .before .before .before .before .before .before .before .before .before .before .pre .1 .0 .height-low), subst (λ (z : Breaks). z .height ≤ 64) (sym (c .refused-at .ensures .3)) (c .before .before .before .before .before .before .before .before .before .before .pre .1 .0 .breaks-low))))
+if-at-returns t c = (
+  c .before .before .before .before .before .before .before .before .before .before .pre .1 .1 .0 .0,
+  c .before .before .before .before .before .before .before .before .before .before .pre .1 .1 .0 .1,
+  sym (Steps.visit-refused (c .before .before .before .before .before .before .before .before .before .before .args .t .now) (c .before .before .before .before .before .before .before .before .before .before .args .x) (c .before .before .before .before .before .before .before .before .before .before .args .ip) (c .before .before .before .before .before .before .before .before .before .before .args .floor) (at (c .before .before .before .before .before .before .before .before .before .before .args .height) (c .before .before .before .before .before .before .before .before .before .before .args .slots .now) (c .before .before .before .before .before .before .before .before .before .before .args .places .now)) (breaksIn (c .before .before .before .before .before .before .before .before .before .before .args .b) (c .before .before .before .before .before .before .before .before .before .before .args .broken .now) (c .before .before .before .before .before .before .before .before .before .before .args .held .now)) _ (Guards.guardedStep (c .before .before .before .before .before .guard-at .result) 1 (at (c .before .before .before .before .before .before .before .before .before .before .args .height) (c .before .before .before .before .before .before .before .before .before .before .args .slots .now) (c .before .before .before .before .before .before .before .before .before .before .args .places .now))) (Guards.guard-examined (c .before .before .before .before .before .before .before .before .before .before .args .t .now) (c .before .before .before .before .before .before .before .before .before .before .args .x) (c .before .before .before .before .before .before .before .before .before .before .args .ip) (c .before .before .before .before .before .before .before .before .before .before .args .floor) (at (c .before .before .before .before .before .before .before .before .before .before .args .height) (c .before .before .before .before .before .before .before .before .before .before .args .slots .now) (c .before .before .before .before .before .before .before .before .before .before .args .places .now)) 1 _ _ (c .before .before .before .before .before .guard-at .result) (c .before .before .before .before .before .guard-at .ensures) (c .before .before .before .before .before .before .before .before .before .before .pre .1 .1 .1 .1) tt (Guards.one-needed (Visits.chunkIn (c .before .before .before .before .before .before .before .before .before .before .args .t .now) (c .before .before .before .before .before .before .before .before .before .before .args .x)) (Visits.instrIn (c .before .before .before .before .before .before .before .before .before .before .args .t .now) (c .before .before .before .before .before .before .before .before .before .before .args .x) (c .before .before .before .before .before .before .before .before .before .before .args .ip)) (c .before .before .before .before .before .before .before .before .before .before .pre .1 .1 .1 .1) refl tt) (c .before .before .before .before .before .before .before .before .before .before .pre .1 .0 .height-low)) (ifTo (c .before .before .before .before .before .before .before .before .before .before .args .target))
+      tt (sym (passed-no _ (c .before .enum-told2 .given .1))) (c .before .before .before .before .before .before .before .before .before .before .args .end) (onwardIn (c .refused-at .result) (c .before .before .before .before .before .before .before .before .before .before .args .slots .now) (c .before .before .before .before .before .before .before .before .before .before .args .places .now) (c .before .before .before .before .before .before .before .before .before .before .args .broken .now) (c .before .before .before .before .before .before .before .before .before .before .args .held .now)) _
+      (c .refused-at .ensures .1)),
+  (
+    omega (arith, c .refused-at .ensures .0),
+    omega (arith, c .refused-at .ensures .0, (c .before .before .before .before .before .before .before .before .before .before .pre .1 .1 .1 .0)),
+    (
+      subst (λ (z : ℕ). z ≤ 64) (sym
+          (c .refused-at .ensures .2)) (c .before .before .before .before .before .before .before .before .before .before .pre .1 .0 .height-low),
+      subst (λ (z : Breaks). z .height ≤ 64) (sym (c .refused-at .ensures .3)) (c .before .before .before .before .before .before .before .before .before .before .pre .1 .0 .breaks-low),
+    ),
+  ),
+)
 
 -- src/lib.rt:227:9
 if-at-layout-of-requires : (t : ℕ) → if-at-lts.Need-layout-of-requires (
@@ -460,10 +509,23 @@ if-at-one-arm-requires : (t : ℕ) → if-at-lts.Need-one-arm-requires (
   two-arms.Post,
 ) (if-at-at t) if-at.Post
 unfolding Outcomes.elseOf
-if-at-one-arm-requires t c κs =
-    (omega (arith, c .before .before .before .before .before .before .before .before .before .before .before .before .before .before .before .before .before .before .pre .0, (c .before .before .before .before .before .before .before .before .before .before .before .before .before .before .before .before .before .before .pre .1 .1 .1 .0)), (record { placed = Cycle.placed-by (c .before .before .before .before .before .before .before .before .before .before .before .before .before .before .before .before .before .before .args .t .now) (c .before .before .before .before .before .before .before .before .before .before .before .before .before .before .before .before .before .before .args .heights .now) (c .before .before .before .before .before .before .before .before .before .before .before .before .before .before .before .before .before .before .args .blinds .now) _ (c .before .before .before .before .before .before .before .before .before .before .before .before .before .before .before .before .before .before .args .blinds .now) (c .before .before .before .before .before .before .before .before .before .before .before .before .before .before .before .before .before .before .args .x) (c .before .before .before .before .before .before .before .before .before .before .before .before .before .guard-at .kept .0) refl (c .before .before .before .before .before .before .before .before .before .before .before .before .before .before .before .before .before .before .pre .1 .0 .placed); from
-    = c .before .before .before .before .before .before .before .before .before .before .before .before .before .before .before .before .before .before .pre .1 .0 .from; arm = c .before .before .before .before .before .before .before .before .before .before .before .before .before .before .before .before .before .before .pre .1 .0 .arm; after = c .before .before .before .before .before .before .before .before .before .before .before .before .before .before .before .before .before .before .pre .1 .0 .after; before = c .before .before .before .before .before .before .before .before .before .before .before .before .before .before .before .before .before .before .pre .1 .0 .before; floor-low = c .before .before .before .before .before .before .before .before .before .before .before .before .before .before .before .before .before .before .pre .1 .0 .floor-low; height-low = omega (arith, c .before .before .before .before .before .before .before .before .before .before .before .before .before .before .before .before .before .before .pre .1 .0 .height-low);
-    breaks-low = c .before .before .before .before .before .before .before .before .before .before .before .before .before .before .before .before .before .before .pre .1 .0 .breaks-low }, (c .before .before .before .before .before .before .before .before .before .before .before .before .before .before .before .before .before .before .pre .1 .1 .0, ((c .before .before .before .before .before .before .before .before .before .before .before .before .before .before .before .before .before .before .pre .1 .1 .1 .0), (c .before .before .before .before .before .before .before .before .before .before .before .before .before .before .before .before .before .before .pre .1 .1 .1 .1), (ap Outcomes.elseOf (sym (c .before .before .before .before .before .before .enum-told3 .given .1)) ∙ c .before .before .before .before .before .before .before .before .layout-of .ensures)))))
+if-at-one-arm-requires t c κs = (
+  omega (arith, c .before .before .before .before .before .before .before .before .before .before .before .before .before .before .before .before .before .before .pre .0, (c .before .before .before .before .before .before .before .before .before .before .before .before .before .before .before .before .before .before .pre .1 .1 .1 .0)),
+  (
+    record {
+      placed = Cycle.placed-by (c .before .before .before .before .before .before .before .before .before .before .before .before .before .before .before .before .before .before .args .t .now) (c .before .before .before .before .before .before .before .before .before .before .before .before .before .before .before .before .before .before .args .heights .now) (c .before .before .before .before .before .before .before .before .before .before .before .before .before .before .before .before .before .before .args .blinds .now) _ (c .before .before .before .before .before .before .before .before .before .before .before .before .before .before .before .before .before .before .args .blinds .now) (c .before .before .before .before .before .before .before .before .before .before .before .before .before .before .before .before .before .before .args .x) (c .before .before .before .before .before .before .before .before .before .before .before .before .before .guard-at .kept .0) refl (c .before .before .before .before .before .before .before .before .before .before .before .before .before .before .before .before .before .before .pre .1 .0 .placed);
+      from
+          = c .before .before .before .before .before .before .before .before .before .before .before .before .before .before .before .before .before .before .pre .1 .0 .from;
+      arm = c .before .before .before .before .before .before .before .before .before .before .before .before .before .before .before .before .before .before .pre .1 .0 .arm;
+      after = c .before .before .before .before .before .before .before .before .before .before .before .before .before .before .before .before .before .before .pre .1 .0 .after;
+      before = c .before .before .before .before .before .before .before .before .before .before .before .before .before .before .before .before .before .before .pre .1 .0 .before;
+      floor-low = c .before .before .before .before .before .before .before .before .before .before .before .before .before .before .before .before .before .before .pre .1 .0 .floor-low;
+      height-low = omega (arith, c .before .before .before .before .before .before .before .before .before .before .before .before .before .before .before .before .before .before .pre .1 .0 .height-low);
+      breaks-low = c .before .before .before .before .before .before .before .before .before .before .before .before .before .before .before .before .before .before .pre .1 .0 .breaks-low;
+    },
+    (c .before .before .before .before .before .before .before .before .before .before .before .before .before .before .before .before .before .before .pre .1 .1 .0, ((c .before .before .before .before .before .before .before .before .before .before .before .before .before .before .before .before .before .before .pre .1 .1 .1 .0), (c .before .before .before .before .before .before .before .before .before .before .before .before .before .before .before .before .before .before .pre .1 .1 .1 .1), (ap Outcomes.elseOf (sym (c .before .before .before .before .before .before .enum-told3 .given .1)) ∙ c .before .before .before .before .before .before .before .before .layout-of .ensures))),
+  ),
+)
 
 -- src/lib.rt:247:25
 if-at-enum-known-l : (t : ℕ) → if-at-lts.Need-enum-known-l (
@@ -509,10 +571,23 @@ if-at-two-arms-requires : (t : ℕ) → if-at-lts.Need-two-arms-requires (
   two-arms.Post,
 ) (if-at-at t) if-at.Post
 unfolding Outcomes.elseOf
-if-at-two-arms-requires t c κs =
-    (omega (arith, c .before .before .before .before .before .before .before .before .before .before .before .before .before .before .before .before .before .before .before .pre .0, (c .before .before .before .before .before .before .before .before .before .before .before .before .before .before .before .before .before .before .before .pre .1 .1 .1 .0)), (record { placed = Cycle.placed-by (c .before .before .before .before .before .before .before .before .before .before .before .before .before .before .before .before .before .before .before .args .t .now) (c .before .before .before .before .before .before .before .before .before .before .before .before .before .before .before .before .before .before .before .args .heights .now) (c .before .before .before .before .before .before .before .before .before .before .before .before .before .before .before .before .before .before .before .args .blinds .now) _ (c .before .before .before .before .before .before .before .before .before .before .before .before .before .before .before .before .before .before .before .args .blinds .now) (c .before .before .before .before .before .before .before .before .before .before .before .before .before .before .before .before .before .before .before .args .x) (c .before .before .before .before .before .before .before .before .before .before .before .before .before .before .guard-at .kept .0) refl (c .before .before .before .before .before .before .before .before .before .before .before .before .before .before .before .before .before .before .before .pre .1 .0 .placed); from
-    = c .before .before .before .before .before .before .before .before .before .before .before .before .before .before .before .before .before .before .before .pre .1 .0 .from; arm = c .before .before .before .before .before .before .before .before .before .before .before .before .before .before .before .before .before .before .before .pre .1 .0 .arm; after = c .before .before .before .before .before .before .before .before .before .before .before .before .before .before .before .before .before .before .before .pre .1 .0 .after; before = c .before .before .before .before .before .before .before .before .before .before .before .before .before .before .before .before .before .before .before .pre .1 .0 .before; floor-low = c .before .before .before .before .before .before .before .before .before .before .before .before .before .before .before .before .before .before .before .pre .1 .0 .floor-low; height-low = omega (arith, c .before .before .before .before .before .before .before .before .before .before .before .before .before .before .before .before .before .before .before .pre .1 .0 .height-low);
-    breaks-low = c .before .before .before .before .before .before .before .before .before .before .before .before .before .before .before .before .before .before .before .pre .1 .0 .breaks-low }, (c .before .before .before .before .before .before .before .before .before .before .before .before .before .before .before .before .before .before .before .pre .1 .1 .0, ((c .before .before .before .before .before .before .before .before .before .before .before .before .before .before .before .before .before .before .before .pre .1 .1 .1 .0), (c .before .before .before .before .before .before .before .before .before .before .before .before .before .before .before .before .before .before .before .pre .1 .1 .1 .1), (ap Outcomes.elseOf (sym (c .before .before .before .before .before .before .before .l .given .1)) ∙ c .before .before .before .before .before .before .before .before .before .layout-of .ensures)))))
+if-at-two-arms-requires t c κs = (
+  omega (arith, c .before .before .before .before .before .before .before .before .before .before .before .before .before .before .before .before .before .before .before .pre .0, (c .before .before .before .before .before .before .before .before .before .before .before .before .before .before .before .before .before .before .before .pre .1 .1 .1 .0)),
+  (
+    record {
+      placed = Cycle.placed-by (c .before .before .before .before .before .before .before .before .before .before .before .before .before .before .before .before .before .before .before .args .t .now) (c .before .before .before .before .before .before .before .before .before .before .before .before .before .before .before .before .before .before .before .args .heights .now) (c .before .before .before .before .before .before .before .before .before .before .before .before .before .before .before .before .before .before .before .args .blinds .now) _ (c .before .before .before .before .before .before .before .before .before .before .before .before .before .before .before .before .before .before .before .args .blinds .now) (c .before .before .before .before .before .before .before .before .before .before .before .before .before .before .before .before .before .before .before .args .x) (c .before .before .before .before .before .before .before .before .before .before .before .before .before .before .guard-at .kept .0) refl (c .before .before .before .before .before .before .before .before .before .before .before .before .before .before .before .before .before .before .before .pre .1 .0 .placed);
+      from
+          = c .before .before .before .before .before .before .before .before .before .before .before .before .before .before .before .before .before .before .before .pre .1 .0 .from;
+      arm = c .before .before .before .before .before .before .before .before .before .before .before .before .before .before .before .before .before .before .before .pre .1 .0 .arm;
+      after = c .before .before .before .before .before .before .before .before .before .before .before .before .before .before .before .before .before .before .before .pre .1 .0 .after;
+      before = c .before .before .before .before .before .before .before .before .before .before .before .before .before .before .before .before .before .before .before .pre .1 .0 .before;
+      floor-low = c .before .before .before .before .before .before .before .before .before .before .before .before .before .before .before .before .before .before .before .pre .1 .0 .floor-low;
+      height-low = omega (arith, c .before .before .before .before .before .before .before .before .before .before .before .before .before .before .before .before .before .before .before .pre .1 .0 .height-low);
+      breaks-low = c .before .before .before .before .before .before .before .before .before .before .before .before .before .before .before .before .before .before .before .pre .1 .0 .breaks-low;
+    },
+    (c .before .before .before .before .before .before .before .before .before .before .before .before .before .before .before .before .before .before .before .pre .1 .1 .0, ((c .before .before .before .before .before .before .before .before .before .before .before .before .before .before .before .before .before .before .before .pre .1 .1 .1 .0), (c .before .before .before .before .before .before .before .before .before .before .before .before .before .before .before .before .before .before .before .pre .1 .1 .1 .1), (ap Outcomes.elseOf (sym (c .before .before .before .before .before .before .before .l .given .1)) ∙ c .before .before .before .before .before .before .before .before .before .layout-of .ensures))),
+  ),
+)
 
 -- src/lib.rt:202:1
 if-at-same-length-2 : (t : ℕ) → if-at-lts.Need-same-length-2 (
@@ -557,11 +632,14 @@ if-at-returns-2 : (t : ℕ) → if-at-lts.Need-returns-2 (
   two-arms-below t,
   two-arms.Post,
 ) (if-at-at t) if-at.Post
-if-at-returns-2 t c =
-    (c .before .before .before .before .one-arm .ensures .0, c .before .before .before .before .one-arm .ensures .1, Cycle.if-passed (c .before .before .before .before .before .before .before .before .before .before .before .before .before .before .before .before .before .before .before .before .before .before .before .args .t .now) (c .before .before .before .before .before .before .before .before .before .before .before .before .before .before .before .before .before .before .before .before .before .before .before .args .x) (c .before .before .before .before .before .before .before .before .before .before .before .before .before .before .before .before .before .before .before .before .before .before .before .args .target) (c .before .before .before .before .before .before .before .before .before .before .before .before .before .before .before .before .before .before .before .before .before .before .before .args .ip) (c .before .before .before .before .before .before .before .before .before .before .before .before .before .before .before .before .before .before .before .before .before .before .before .args .end) (c .before .before .before .before .before .before .before .before .before .before .before .before .before .before .before .before .before .before .before .before .before .before .before .args .floor) (at (c .before .before .before .before .before .before .before .before .before .before .before .before .before .before .before .before .before .before .before .before .before .before .before .args .height) (c .before .before .before .before .before .before .before .before .before .before .before .before .before .before .before .before .before .before .before .before .before .before .before .args .slots .now) (c .before .before .before .before .before .before .before .before .before .before .before .before .before .before .before .before .before .before .before .before .before .before .before .args .places .now)) (breaksIn (c .before .before .before .before .before .before .before .before .before .before .before .before .before .before .before .before .before .before .before .before .before .before .before .args .b) (c .before .before .before .before .before .before .before .before .before .before .before .before .before .before .before .before .before .before .before .before .before .before .before .args .broken .now) (c .before .before .before .before .before .before .before .before .before .before .before .before .before .before .before .before .before .before .before .before .before .before .before .args .held .now)) (c .before .before .before .before .before .before .before .before .before .before .before .before .before .before .before .before .before .before .before .before .before .before .before .args .heights .now) (c .before .before .before .before .before .before .before .before .before .before .before .before .before .before .before .before .before .before .before .before .before .before .before .args .blinds .now) _ _ (Guards.guardedStep
-    (c .before .before .before .before .before .before .before .before .before .before .before .before .before .before .before .before .before .before .guard-at .result) 1 (at (c .before .before .before .before .before .before .before .before .before .before .before .before .before .before .before .before .before .before .before .before .before .before .before .args .height) (c .before .before .before .before .before .before .before .before .before .before .before .before .before .before .before .before .before .before .before .before .before .before .before .args .slots .now) (c .before .before .before .before .before .before .before .before .before .before .before .before .before .before .before .before .before .before .before .before .before .before .before .args .places .now))) (Guards.guard-examined (c .before .before .before .before .before .before .before .before .before .before .before .before .before .before .before .before .before .before .before .before .before .before .before .args .t .now) (c .before .before .before .before .before .before .before .before .before .before .before .before .before .before .before .before .before .before .before .before .before .before .before .args .x) (c .before .before .before .before .before .before .before .before .before .before .before .before .before .before .before .before .before .before .before .before .before .before .before .args .ip) (c .before .before .before .before .before .before .before .before .before .before .before .before .before .before .before .before .before .before .before .before .before .before .before .args .floor) (at (c .before .before .before .before .before .before .before .before .before .before .before .before .before .before .before .before .before .before .before .before .before .before .before .args .height) (c .before .before .before .before .before .before .before .before .before .before .before .before .before .before .before .before .before .before .before .before .before .before .before .args .slots .now) (c .before .before .before .before .before .before .before .before .before .before .before .before .before .before .before .before .before .before .before .before .before .before .before .args .places .now)) 1 _ _ (c .before .before .before .before .before .before .before .before .before .before .before .before .before .before .before .before .before .before .guard-at .result) (c .before .before .before .before .before .before .before .before .before .before .before .before .before .before .before .before .before .before .guard-at .ensures) (c .before .before .before .before .before .before .before .before .before .before .before .before .before .before .before .before .before .before .before .before .before .before .before .pre .1 .1 .1 .1) tt (Guards.one-needed (Visits.chunkIn (c .before .before .before .before .before .before .before .before .before .before .before .before .before .before .before .before .before .before .before .before .before .before .before .args .t .now) (c .before .before .before .before .before .before .before .before .before .before .before .before .before .before .before .before .before .before .before .before .before .before .before .args .x)) (Visits.instrIn (c .before .before .before .before .before .before .before .before .before .before .before .before .before .before .before .before .before .before .before .before .before .before .before .args .t .now) (c .before .before .before .before .before .before .before .before .before .before .before .before .before .before .before .before .before .before .before .before .before .before .before .args .x) (c .before .before .before .before .before .before .before .before .before .before .before .before .before .before .before .before .before .before .before .before .before .before .before .args .ip)) (c .before .before .before .before .before .before .before .before .before .before .before .before .before .before .before .before .before .before .before .before .before .before .before .pre .1 .1 .1 .1) refl tt) (c .before .before .before .before .before .before .before .before .before .before .before .before .before .before .before .before .before .before .before .before .before .before .before .pre .1 .0 .height-low)) (sym (passed-yes _ (c .before .before .before .before .before .before .before .before .before .before .before .before .before .before .enum-told .given .1))) (Guards.guard-marked (c .before .before .before .before .before .before .before .before .before .before .before .before .before .before .before .before .before .before .before .before .before .before .before .args .t .now) (c .before .before .before .before .before .before .before .before .before .before .before .before .before .before .before .before .before .before .before .before .before .before .before .args .x) (c .before .before .before .before .before .before .before .before .before .before .before .before .before .before .before .before .before .before .before .before .before .before .before .args .ip) (c .before .before .before .before .before .before .before .before .before .before .before .before .before .before .before .before .before .before .before .before .before .before .before .args .floor) (at (c .before .before .before .before .before .before .before .before .before .before .before .before .before .before .before .before .before .before .before .before .before .before .before .args .height) (c .before .before .before .before .before .before .before .before .before .before .before .before .before .before .before .before .before .before .before .before .before .before .before .args .slots .now) (c .before .before .before .before .before .before .before .before .before .before .before .before .before .before .before .before .before .before .before .before .before .before .before .args .places .now)) 1 _ _ (c .before .before .before .before .before .before .before .before .before .before .before .before .before .before .before .before .before .before .guard-at .result) (c .before .before .before .before .before .before .before .before .before .before .before .before .before .before .before .before .before .before .guard-at .ensures) (c .before .before .before .before .before .before .before .before .before .before .before .before .before .before .before .before .before .before .before .before .before .before .before .pre .1 .1 .1 .1) tt (Guards.one-needed (Visits.chunkIn (c .before .before .before .before .before .before .before .before .before .before .before .before .before .before .before .before .before .before .before .before .before .before .before .args .t .now) (c .before .before .before .before .before .before .before .before .before .before .before .before .before .before .before .before .before .before .before .before .before .before .before .args .x)) (Visits.instrIn (c .before .before .before .before .before .before .before .before .before .before .before .before .before .before .before .before .before .before .before .before .before .before .before .args .t .now) (c .before .before .before .before .before .before .before .before .before .before .before .before .before .before .before .before .before .before .before .before .before .before .before .args .x) (c .before .before .before .before .before .before .before .before .before .before .before .before .before .before .before .before .before .before .before .before .before .before .before .args .ip)) (c .before .before .before .before .before .before .before .before .before .before .before .before .before .before .before .before .before .before .before .before .before .before .before .pre .1 .1 .1 .1) refl tt) (c .before .before .before .before .before .before .before .before .before .before .before .before .before .before .before .before .before .before .before .before .before .before .before .pre .1 .0 .height-low) (c .before .before .before .before .before .before .before .before .before .before .before .before .before .before .before .before .before .before .before .before .before .before .before .args .blinds .now) (c .before .before .before .before .before .before .before .before .before .before .before .before .before .before .before .before .before .before .before .before .before .before .before .pre .1 .0 .placed .of .first)) (onwardIn (c .before .before .before .before .one-arm .result) (c .before .before .before .before .one-arm .last .1 .1 .1 .0)
-    (c .before .before .before .before .one-arm .last .1 .1 .1 .1 .0) (c .before .before .before .before .one-arm .last .1 .1 .1 .1 .1 .0) (c .before .before .before .before .one-arm .last .1 .1 .1 .1 .1 .1 .0)) _ (c .before .before .before .before .one-arm .ensures .2),
-    c .before .before .before .before .one-arm .ensures .3)
+if-at-returns-2 t c = (
+  c .before .before .before .before .one-arm .ensures .0,
+  c .before .before .before .before .one-arm .ensures .1,
+  Cycle.if-passed (c .before .before .before .before .before .before .before .before .before .before .before .before .before .before .before .before .before .before .before .before .before .before .before .args .t .now) (c .before .before .before .before .before .before .before .before .before .before .before .before .before .before .before .before .before .before .before .before .before .before .before .args .x) (c .before .before .before .before .before .before .before .before .before .before .before .before .before .before .before .before .before .before .before .before .before .before .before .args .target) (c .before .before .before .before .before .before .before .before .before .before .before .before .before .before .before .before .before .before .before .before .before .before .before .args .ip) (c .before .before .before .before .before .before .before .before .before .before .before .before .before .before .before .before .before .before .before .before .before .before .before .args .end) (c .before .before .before .before .before .before .before .before .before .before .before .before .before .before .before .before .before .before .before .before .before .before .before .args .floor) (at (c .before .before .before .before .before .before .before .before .before .before .before .before .before .before .before .before .before .before .before .before .before .before .before .args .height) (c .before .before .before .before .before .before .before .before .before .before .before .before .before .before .before .before .before .before .before .before .before .before .before .args .slots .now) (c .before .before .before .before .before .before .before .before .before .before .before .before .before .before .before .before .before .before .before .before .before .before .before .args .places .now)) (breaksIn (c .before .before .before .before .before .before .before .before .before .before .before .before .before .before .before .before .before .before .before .before .before .before .before .args .b) (c .before .before .before .before .before .before .before .before .before .before .before .before .before .before .before .before .before .before .before .before .before .before .before .args .broken .now) (c .before .before .before .before .before .before .before .before .before .before .before .before .before .before .before .before .before .before .before .before .before .before .before .args .held .now)) (c .before .before .before .before .before .before .before .before .before .before .before .before .before .before .before .before .before .before .before .before .before .before .before .args .heights .now) (c .before .before .before .before .before .before .before .before .before .before .before .before .before .before .before .before .before .before .before .before .before .before .before .args .blinds .now) _ _ (Guards.guardedStep
+      (c .before .before .before .before .before .before .before .before .before .before .before .before .before .before .before .before .before .before .guard-at .result) 1 (at (c .before .before .before .before .before .before .before .before .before .before .before .before .before .before .before .before .before .before .before .before .before .before .before .args .height) (c .before .before .before .before .before .before .before .before .before .before .before .before .before .before .before .before .before .before .before .before .before .before .before .args .slots .now) (c .before .before .before .before .before .before .before .before .before .before .before .before .before .before .before .before .before .before .before .before .before .before .before .args .places .now))) (Guards.guard-examined (c .before .before .before .before .before .before .before .before .before .before .before .before .before .before .before .before .before .before .before .before .before .before .before .args .t .now) (c .before .before .before .before .before .before .before .before .before .before .before .before .before .before .before .before .before .before .before .before .before .before .before .args .x) (c .before .before .before .before .before .before .before .before .before .before .before .before .before .before .before .before .before .before .before .before .before .before .before .args .ip) (c .before .before .before .before .before .before .before .before .before .before .before .before .before .before .before .before .before .before .before .before .before .before .before .args .floor) (at (c .before .before .before .before .before .before .before .before .before .before .before .before .before .before .before .before .before .before .before .before .before .before .before .args .height) (c .before .before .before .before .before .before .before .before .before .before .before .before .before .before .before .before .before .before .before .before .before .before .before .args .slots .now) (c .before .before .before .before .before .before .before .before .before .before .before .before .before .before .before .before .before .before .before .before .before .before .before .args .places .now)) 1 _ _ (c .before .before .before .before .before .before .before .before .before .before .before .before .before .before .before .before .before .before .guard-at .result) (c .before .before .before .before .before .before .before .before .before .before .before .before .before .before .before .before .before .before .guard-at .ensures) (c .before .before .before .before .before .before .before .before .before .before .before .before .before .before .before .before .before .before .before .before .before .before .before .pre .1 .1 .1 .1) tt (Guards.one-needed (Visits.chunkIn (c .before .before .before .before .before .before .before .before .before .before .before .before .before .before .before .before .before .before .before .before .before .before .before .args .t .now) (c .before .before .before .before .before .before .before .before .before .before .before .before .before .before .before .before .before .before .before .before .before .before .before .args .x)) (Visits.instrIn (c .before .before .before .before .before .before .before .before .before .before .before .before .before .before .before .before .before .before .before .before .before .before .before .args .t .now) (c .before .before .before .before .before .before .before .before .before .before .before .before .before .before .before .before .before .before .before .before .before .before .before .args .x) (c .before .before .before .before .before .before .before .before .before .before .before .before .before .before .before .before .before .before .before .before .before .before .before .args .ip)) (c .before .before .before .before .before .before .before .before .before .before .before .before .before .before .before .before .before .before .before .before .before .before .before .pre .1 .1 .1 .1) refl tt) (c .before .before .before .before .before .before .before .before .before .before .before .before .before .before .before .before .before .before .before .before .before .before .before .pre .1 .0 .height-low)) (sym (passed-yes _ (c .before .before .before .before .before .before .before .before .before .before .before .before .before .before .enum-told .given .1))) (Guards.guard-marked (c .before .before .before .before .before .before .before .before .before .before .before .before .before .before .before .before .before .before .before .before .before .before .before .args .t .now) (c .before .before .before .before .before .before .before .before .before .before .before .before .before .before .before .before .before .before .before .before .before .before .before .args .x) (c .before .before .before .before .before .before .before .before .before .before .before .before .before .before .before .before .before .before .before .before .before .before .before .args .ip) (c .before .before .before .before .before .before .before .before .before .before .before .before .before .before .before .before .before .before .before .before .before .before .before .args .floor) (at (c .before .before .before .before .before .before .before .before .before .before .before .before .before .before .before .before .before .before .before .before .before .before .before .args .height) (c .before .before .before .before .before .before .before .before .before .before .before .before .before .before .before .before .before .before .before .before .before .before .before .args .slots .now) (c .before .before .before .before .before .before .before .before .before .before .before .before .before .before .before .before .before .before .before .before .before .before .before .args .places .now)) 1 _ _ (c .before .before .before .before .before .before .before .before .before .before .before .before .before .before .before .before .before .before .guard-at .result) (c .before .before .before .before .before .before .before .before .before .before .before .before .before .before .before .before .before .before .guard-at .ensures) (c .before .before .before .before .before .before .before .before .before .before .before .before .before .before .before .before .before .before .before .before .before .before .before .pre .1 .1 .1 .1) tt (Guards.one-needed (Visits.chunkIn (c .before .before .before .before .before .before .before .before .before .before .before .before .before .before .before .before .before .before .before .before .before .before .before .args .t .now) (c .before .before .before .before .before .before .before .before .before .before .before .before .before .before .before .before .before .before .before .before .before .before .before .args .x)) (Visits.instrIn (c .before .before .before .before .before .before .before .before .before .before .before .before .before .before .before .before .before .before .before .before .before .before .before .args .t .now) (c .before .before .before .before .before .before .before .before .before .before .before .before .before .before .before .before .before .before .before .before .before .before .before .args .x) (c .before .before .before .before .before .before .before .before .before .before .before .before .before .before .before .before .before .before .before .before .before .before .before .args .ip)) (c .before .before .before .before .before .before .before .before .before .before .before .before .before .before .before .before .before .before .before .before .before .before .before .pre .1 .1 .1 .1) refl tt) (c .before .before .before .before .before .before .before .before .before .before .before .before .before .before .before .before .before .before .before .before .before .before .before .pre .1 .0 .height-low) (c .before .before .before .before .before .before .before .before .before .before .before .before .before .before .before .before .before .before .before .before .before .before .before .args .blinds .now) (c .before .before .before .before .before .before .before .before .before .before .before .before .before .before .before .before .before .before .before .before .before .before .before .pre .1 .0 .placed .of .first)) (onwardIn (c .before .before .before .before .one-arm .result) (c .before .before .before .before .one-arm .last .1 .1 .1 .0)
+      (c .before .before .before .before .one-arm .last .1 .1 .1 .1 .0) (c .before .before .before .before .one-arm .last .1 .1 .1 .1 .1 .0) (c .before .before .before .before .one-arm .last .1 .1 .1 .1 .1 .1 .0)) _ (c .before .before .before .before .one-arm .ensures .2),
+  c .before .before .before .before .one-arm .ensures .3,
+)
 
 -- src/lib.rt:202:1
 if-at-same-length-4 : (t : ℕ) → if-at-lts.Need-same-length-4 (
@@ -606,11 +684,14 @@ if-at-returns-3 : (t : ℕ) → if-at-lts.Need-returns-3 (
   two-arms-below t,
   two-arms.Post,
 ) (if-at-at t) if-at.Post
-if-at-returns-3 t c =
-    (c .before .before .before .before .two-arms .ensures .0, c .before .before .before .before .two-arms .ensures .1, Cycle.if-passed (c .before .before .before .before .before .before .before .before .before .before .before .before .before .before .before .before .before .before .before .before .before .before .before .before .args .t .now) (c .before .before .before .before .before .before .before .before .before .before .before .before .before .before .before .before .before .before .before .before .before .before .before .before .args .x) (c .before .before .before .before .before .before .before .before .before .before .before .before .before .before .before .before .before .before .before .before .before .before .before .before .args .target) (c .before .before .before .before .before .before .before .before .before .before .before .before .before .before .before .before .before .before .before .before .before .before .before .before .args .ip) (c .before .before .before .before .before .before .before .before .before .before .before .before .before .before .before .before .before .before .before .before .before .before .before .before .args .end) (c .before .before .before .before .before .before .before .before .before .before .before .before .before .before .before .before .before .before .before .before .before .before .before .before .args .floor) (at (c .before .before .before .before .before .before .before .before .before .before .before .before .before .before .before .before .before .before .before .before .before .before .before .before .args .height) (c .before .before .before .before .before .before .before .before .before .before .before .before .before .before .before .before .before .before .before .before .before .before .before .before .args .slots .now) (c .before .before .before .before .before .before .before .before .before .before .before .before .before .before .before .before .before .before .before .before .before .before .before .before .args .places .now)) (breaksIn (c .before .before .before .before .before .before .before .before .before .before .before .before .before .before .before .before .before .before .before .before .before .before .before .before .args .b) (c .before .before .before .before .before .before .before .before .before .before .before .before .before .before .before .before .before .before .before .before .before .before .before .before .args .broken .now) (c .before .before .before .before .before .before .before .before .before .before .before .before .before .before .before .before .before .before .before .before .before .before .before .before .args .held .now)) (c .before .before .before .before .before .before .before .before .before .before .before .before .before .before .before .before .before .before .before .before .before .before .before .before .args .heights .now) (c .before .before .before .before .before .before .before .before .before .before .before .before .before .before .before .before .before .before .before .before .before .before .before .before .args .blinds .now) _ _ (Guards.guardedStep
-    (c .before .before .before .before .before .before .before .before .before .before .before .before .before .before .before .before .before .before .before .guard-at .result) 1 (at (c .before .before .before .before .before .before .before .before .before .before .before .before .before .before .before .before .before .before .before .before .before .before .before .before .args .height) (c .before .before .before .before .before .before .before .before .before .before .before .before .before .before .before .before .before .before .before .before .before .before .before .before .args .slots .now) (c .before .before .before .before .before .before .before .before .before .before .before .before .before .before .before .before .before .before .before .before .before .before .before .before .args .places .now))) (Guards.guard-examined (c .before .before .before .before .before .before .before .before .before .before .before .before .before .before .before .before .before .before .before .before .before .before .before .before .args .t .now) (c .before .before .before .before .before .before .before .before .before .before .before .before .before .before .before .before .before .before .before .before .before .before .before .before .args .x) (c .before .before .before .before .before .before .before .before .before .before .before .before .before .before .before .before .before .before .before .before .before .before .before .before .args .ip) (c .before .before .before .before .before .before .before .before .before .before .before .before .before .before .before .before .before .before .before .before .before .before .before .before .args .floor) (at (c .before .before .before .before .before .before .before .before .before .before .before .before .before .before .before .before .before .before .before .before .before .before .before .before .args .height) (c .before .before .before .before .before .before .before .before .before .before .before .before .before .before .before .before .before .before .before .before .before .before .before .before .args .slots .now) (c .before .before .before .before .before .before .before .before .before .before .before .before .before .before .before .before .before .before .before .before .before .before .before .before .args .places .now)) 1 _ _ (c .before .before .before .before .before .before .before .before .before .before .before .before .before .before .before .before .before .before .before .guard-at .result) (c .before .before .before .before .before .before .before .before .before .before .before .before .before .before .before .before .before .before .before .guard-at .ensures) (c .before .before .before .before .before .before .before .before .before .before .before .before .before .before .before .before .before .before .before .before .before .before .before .before .pre .1 .1 .1 .1) tt (Guards.one-needed (Visits.chunkIn (c .before .before .before .before .before .before .before .before .before .before .before .before .before .before .before .before .before .before .before .before .before .before .before .before .args .t .now) (c .before .before .before .before .before .before .before .before .before .before .before .before .before .before .before .before .before .before .before .before .before .before .before .before .args .x)) (Visits.instrIn (c .before .before .before .before .before .before .before .before .before .before .before .before .before .before .before .before .before .before .before .before .before .before .before .before .args .t .now) (c .before .before .before .before .before .before .before .before .before .before .before .before .before .before .before .before .before .before .before .before .before .before .before .before .args .x) (c .before .before .before .before .before .before .before .before .before .before .before .before .before .before .before .before .before .before .before .before .before .before .before .before .args .ip)) (c .before .before .before .before .before .before .before .before .before .before .before .before .before .before .before .before .before .before .before .before .before .before .before .before .pre .1 .1 .1 .1) refl tt) (c .before .before .before .before .before .before .before .before .before .before .before .before .before .before .before .before .before .before .before .before .before .before .before .before .pre .1 .0 .height-low)) (sym (passed-yes _ (c .before .before .before .before .before .before .before .before .before .before .before .before .before .before .before .enum-told .given .1))) (Guards.guard-marked (c .before .before .before .before .before .before .before .before .before .before .before .before .before .before .before .before .before .before .before .before .before .before .before .before .args .t .now) (c .before .before .before .before .before .before .before .before .before .before .before .before .before .before .before .before .before .before .before .before .before .before .before .before .args .x) (c .before .before .before .before .before .before .before .before .before .before .before .before .before .before .before .before .before .before .before .before .before .before .before .before .args .ip) (c .before .before .before .before .before .before .before .before .before .before .before .before .before .before .before .before .before .before .before .before .before .before .before .before .args .floor) (at (c .before .before .before .before .before .before .before .before .before .before .before .before .before .before .before .before .before .before .before .before .before .before .before .before .args .height) (c .before .before .before .before .before .before .before .before .before .before .before .before .before .before .before .before .before .before .before .before .before .before .before .before .args .slots .now) (c .before .before .before .before .before .before .before .before .before .before .before .before .before .before .before .before .before .before .before .before .before .before .before .before .args .places .now)) 1 _ _ (c .before .before .before .before .before .before .before .before .before .before .before .before .before .before .before .before .before .before .before .guard-at .result) (c .before .before .before .before .before .before .before .before .before .before .before .before .before .before .before .before .before .before .before .guard-at .ensures) (c .before .before .before .before .before .before .before .before .before .before .before .before .before .before .before .before .before .before .before .before .before .before .before .before .pre .1 .1 .1 .1) tt (Guards.one-needed (Visits.chunkIn (c .before .before .before .before .before .before .before .before .before .before .before .before .before .before .before .before .before .before .before .before .before .before .before .before .args .t .now) (c .before .before .before .before .before .before .before .before .before .before .before .before .before .before .before .before .before .before .before .before .before .before .before .before .args .x)) (Visits.instrIn (c .before .before .before .before .before .before .before .before .before .before .before .before .before .before .before .before .before .before .before .before .before .before .before .before .args .t .now) (c .before .before .before .before .before .before .before .before .before .before .before .before .before .before .before .before .before .before .before .before .before .before .before .before .args .x) (c .before .before .before .before .before .before .before .before .before .before .before .before .before .before .before .before .before .before .before .before .before .before .before .before .args .ip)) (c .before .before .before .before .before .before .before .before .before .before .before .before .before .before .before .before .before .before .before .before .before .before .before .before .pre .1 .1 .1 .1) refl tt) (c .before .before .before .before .before .before .before .before .before .before .before .before .before .before .before .before .before .before .before .before .before .before .before .before .pre .1 .0 .height-low) (c .before .before .before .before .before .before .before .before .before .before .before .before .before .before .before .before .before .before .before .before .before .before .before .before .args .blinds .now) (c .before .before .before .before .before .before .before .before .before .before .before .before .before .before .before .before .before .before .before .before .before .before .before .before .pre .1 .0 .placed .of .first)) (onwardIn (c .before .before .before .before .two-arms .result) (c .before .before .before .before .two-arms .last .1 .1 .1 .0)
-    (c .before .before .before .before .two-arms .last .1 .1 .1 .1 .0) (c .before .before .before .before .two-arms .last .1 .1 .1 .1 .1 .0) (c .before .before .before .before .two-arms .last .1 .1 .1 .1 .1 .1 .0)) _ (c .before .before .before .before .two-arms .ensures .2),
-    c .before .before .before .before .two-arms .ensures .3)
+if-at-returns-3 t c = (
+  c .before .before .before .before .two-arms .ensures .0,
+  c .before .before .before .before .two-arms .ensures .1,
+  Cycle.if-passed (c .before .before .before .before .before .before .before .before .before .before .before .before .before .before .before .before .before .before .before .before .before .before .before .before .args .t .now) (c .before .before .before .before .before .before .before .before .before .before .before .before .before .before .before .before .before .before .before .before .before .before .before .before .args .x) (c .before .before .before .before .before .before .before .before .before .before .before .before .before .before .before .before .before .before .before .before .before .before .before .before .args .target) (c .before .before .before .before .before .before .before .before .before .before .before .before .before .before .before .before .before .before .before .before .before .before .before .before .args .ip) (c .before .before .before .before .before .before .before .before .before .before .before .before .before .before .before .before .before .before .before .before .before .before .before .before .args .end) (c .before .before .before .before .before .before .before .before .before .before .before .before .before .before .before .before .before .before .before .before .before .before .before .before .args .floor) (at (c .before .before .before .before .before .before .before .before .before .before .before .before .before .before .before .before .before .before .before .before .before .before .before .before .args .height) (c .before .before .before .before .before .before .before .before .before .before .before .before .before .before .before .before .before .before .before .before .before .before .before .before .args .slots .now) (c .before .before .before .before .before .before .before .before .before .before .before .before .before .before .before .before .before .before .before .before .before .before .before .before .args .places .now)) (breaksIn (c .before .before .before .before .before .before .before .before .before .before .before .before .before .before .before .before .before .before .before .before .before .before .before .before .args .b) (c .before .before .before .before .before .before .before .before .before .before .before .before .before .before .before .before .before .before .before .before .before .before .before .before .args .broken .now) (c .before .before .before .before .before .before .before .before .before .before .before .before .before .before .before .before .before .before .before .before .before .before .before .before .args .held .now)) (c .before .before .before .before .before .before .before .before .before .before .before .before .before .before .before .before .before .before .before .before .before .before .before .before .args .heights .now) (c .before .before .before .before .before .before .before .before .before .before .before .before .before .before .before .before .before .before .before .before .before .before .before .before .args .blinds .now) _ _ (Guards.guardedStep
+      (c .before .before .before .before .before .before .before .before .before .before .before .before .before .before .before .before .before .before .before .guard-at .result) 1 (at (c .before .before .before .before .before .before .before .before .before .before .before .before .before .before .before .before .before .before .before .before .before .before .before .before .args .height) (c .before .before .before .before .before .before .before .before .before .before .before .before .before .before .before .before .before .before .before .before .before .before .before .before .args .slots .now) (c .before .before .before .before .before .before .before .before .before .before .before .before .before .before .before .before .before .before .before .before .before .before .before .before .args .places .now))) (Guards.guard-examined (c .before .before .before .before .before .before .before .before .before .before .before .before .before .before .before .before .before .before .before .before .before .before .before .before .args .t .now) (c .before .before .before .before .before .before .before .before .before .before .before .before .before .before .before .before .before .before .before .before .before .before .before .before .args .x) (c .before .before .before .before .before .before .before .before .before .before .before .before .before .before .before .before .before .before .before .before .before .before .before .before .args .ip) (c .before .before .before .before .before .before .before .before .before .before .before .before .before .before .before .before .before .before .before .before .before .before .before .before .args .floor) (at (c .before .before .before .before .before .before .before .before .before .before .before .before .before .before .before .before .before .before .before .before .before .before .before .before .args .height) (c .before .before .before .before .before .before .before .before .before .before .before .before .before .before .before .before .before .before .before .before .before .before .before .before .args .slots .now) (c .before .before .before .before .before .before .before .before .before .before .before .before .before .before .before .before .before .before .before .before .before .before .before .before .args .places .now)) 1 _ _ (c .before .before .before .before .before .before .before .before .before .before .before .before .before .before .before .before .before .before .before .guard-at .result) (c .before .before .before .before .before .before .before .before .before .before .before .before .before .before .before .before .before .before .before .guard-at .ensures) (c .before .before .before .before .before .before .before .before .before .before .before .before .before .before .before .before .before .before .before .before .before .before .before .before .pre .1 .1 .1 .1) tt (Guards.one-needed (Visits.chunkIn (c .before .before .before .before .before .before .before .before .before .before .before .before .before .before .before .before .before .before .before .before .before .before .before .before .args .t .now) (c .before .before .before .before .before .before .before .before .before .before .before .before .before .before .before .before .before .before .before .before .before .before .before .before .args .x)) (Visits.instrIn (c .before .before .before .before .before .before .before .before .before .before .before .before .before .before .before .before .before .before .before .before .before .before .before .before .args .t .now) (c .before .before .before .before .before .before .before .before .before .before .before .before .before .before .before .before .before .before .before .before .before .before .before .before .args .x) (c .before .before .before .before .before .before .before .before .before .before .before .before .before .before .before .before .before .before .before .before .before .before .before .before .args .ip)) (c .before .before .before .before .before .before .before .before .before .before .before .before .before .before .before .before .before .before .before .before .before .before .before .before .pre .1 .1 .1 .1) refl tt) (c .before .before .before .before .before .before .before .before .before .before .before .before .before .before .before .before .before .before .before .before .before .before .before .before .pre .1 .0 .height-low)) (sym (passed-yes _ (c .before .before .before .before .before .before .before .before .before .before .before .before .before .before .before .enum-told .given .1))) (Guards.guard-marked (c .before .before .before .before .before .before .before .before .before .before .before .before .before .before .before .before .before .before .before .before .before .before .before .before .args .t .now) (c .before .before .before .before .before .before .before .before .before .before .before .before .before .before .before .before .before .before .before .before .before .before .before .before .args .x) (c .before .before .before .before .before .before .before .before .before .before .before .before .before .before .before .before .before .before .before .before .before .before .before .before .args .ip) (c .before .before .before .before .before .before .before .before .before .before .before .before .before .before .before .before .before .before .before .before .before .before .before .before .args .floor) (at (c .before .before .before .before .before .before .before .before .before .before .before .before .before .before .before .before .before .before .before .before .before .before .before .before .args .height) (c .before .before .before .before .before .before .before .before .before .before .before .before .before .before .before .before .before .before .before .before .before .before .before .before .args .slots .now) (c .before .before .before .before .before .before .before .before .before .before .before .before .before .before .before .before .before .before .before .before .before .before .before .before .args .places .now)) 1 _ _ (c .before .before .before .before .before .before .before .before .before .before .before .before .before .before .before .before .before .before .before .guard-at .result) (c .before .before .before .before .before .before .before .before .before .before .before .before .before .before .before .before .before .before .before .guard-at .ensures) (c .before .before .before .before .before .before .before .before .before .before .before .before .before .before .before .before .before .before .before .before .before .before .before .before .pre .1 .1 .1 .1) tt (Guards.one-needed (Visits.chunkIn (c .before .before .before .before .before .before .before .before .before .before .before .before .before .before .before .before .before .before .before .before .before .before .before .before .args .t .now) (c .before .before .before .before .before .before .before .before .before .before .before .before .before .before .before .before .before .before .before .before .before .before .before .before .args .x)) (Visits.instrIn (c .before .before .before .before .before .before .before .before .before .before .before .before .before .before .before .before .before .before .before .before .before .before .before .before .args .t .now) (c .before .before .before .before .before .before .before .before .before .before .before .before .before .before .before .before .before .before .before .before .before .before .before .before .args .x) (c .before .before .before .before .before .before .before .before .before .before .before .before .before .before .before .before .before .before .before .before .before .before .before .before .args .ip)) (c .before .before .before .before .before .before .before .before .before .before .before .before .before .before .before .before .before .before .before .before .before .before .before .before .pre .1 .1 .1 .1) refl tt) (c .before .before .before .before .before .before .before .before .before .before .before .before .before .before .before .before .before .before .before .before .before .before .before .before .pre .1 .0 .height-low) (c .before .before .before .before .before .before .before .before .before .before .before .before .before .before .before .before .before .before .before .before .before .before .before .before .args .blinds .now) (c .before .before .before .before .before .before .before .before .before .before .before .before .before .before .before .before .before .before .before .before .before .before .before .before .pre .1 .0 .placed .of .first)) (onwardIn (c .before .before .before .before .two-arms .result) (c .before .before .before .before .two-arms .last .1 .1 .1 .0)
+      (c .before .before .before .before .two-arms .last .1 .1 .1 .1 .0) (c .before .before .before .before .two-arms .last .1 .1 .1 .1 .1 .0) (c .before .before .before .before .two-arms .last .1 .1 .1 .1 .1 .1 .0)) _ (c .before .before .before .before .two-arms .ensures .2),
+  c .before .before .before .before .two-arms .ensures .3,
+)
 
 abbrev interp-region-Inv-loop : interp-region-lts.InvT-loop
 interp-region-Inv-loop t heights₀ blinds₀ slots₀ places₀ broken₀ held₀ x start end floor height first ip₀ h₀ k₀ heights blinds slots places broken held ip h k =
@@ -645,8 +726,11 @@ interp-region-add-instr-at : (t : ℕ) → interp-region-lts.Need-add-instr-at (
   block-at.Post,
 ) (interp-region-at t) interp-region.Post interp-region-Inv-loop interp-region-μ-loop
 interp-region-add-instr-at t c =
-    omega (arith, Cycle.inside (c .before .before .before .before .before .args .t .now) (c .before .loop .heights) (c .before .loop .blinds) (c .before .before .before .before .before .args .x) (c .before .loop .ip) (c .before .before .before .before .before .args .end) (c .before .before .before .before .before .args .floor) _ _ ((c .before .loop .inv .2) .ready) (c .loop-test .taken),
-    c .before .before .before .before .before .pre .1 .0 .placed .of .within)
+    omega (
+      arith,
+      Cycle.inside (c .before .before .before .before .before .args .t .now) (c .before .loop .heights) (c .before .loop .blinds) (c .before .before .before .before .before .args .x) (c .before .loop .ip) (c .before .before .before .before .before .args .end) (c .before .before .before .before .before .args .floor) _ _ ((c .before .loop .inv .2) .ready) (c .loop-test .taken),
+      c .before .before .before .before .before .pre .1 .0 .placed .of .within,
+    )
 
 -- src/lib.rt:56:13
 interp-region-instr-at-requires : (t : ℕ) → interp-region-lts.Need-instr-at-requires (
@@ -660,8 +744,11 @@ interp-region-instr-at-requires : (t : ℕ) → interp-region-lts.Need-instr-at-
   block-at.Post,
 ) (interp-region-at t) interp-region.Post interp-region-Inv-loop interp-region-μ-loop
 interp-region-instr-at-requires t c κs =
-    omega (arith, Cycle.inside (c .before .before .before .before .before .args .t .now) (c .before .loop .heights) (c .before .loop .blinds) (c .before .before .before .before .before .args .x) (c .before .loop .ip) (c .before .before .before .before .before .args .end) (c .before .before .before .before .before .args .floor) _ _ ((c .before .loop .inv .2) .ready) (c .loop-test .taken),
-    c .before .before .before .before .before .pre .1 .0 .placed .of .within)
+    omega (
+      arith,
+      Cycle.inside (c .before .before .before .before .before .args .t .now) (c .before .loop .heights) (c .before .loop .blinds) (c .before .before .before .before .before .args .x) (c .before .loop .ip) (c .before .before .before .before .before .args .end) (c .before .before .before .before .before .args .floor) _ _ ((c .before .loop .inv .2) .ready) (c .loop-test .taken),
+      c .before .before .before .before .before .pre .1 .0 .placed .of .within,
+    )
 
 -- src/lib.rt:59:12
 interp-region-is-straight-requires : (t : ℕ) → interp-region-lts.Need-is-straight-requires (
@@ -687,9 +774,18 @@ interp-region-step-requires : (t : ℕ) → interp-region-lts.Need-step-requires
   block-at-below t,
   block-at.Post,
 ) (interp-region-at t) interp-region.Post interp-region-Inv-loop interp-region-μ-loop
-interp-region-step-requires t c κs =
-    ((c .before .before .before .before .before .before .before .before .loop .inv .2) .ready .placed .of, ((c .before .before .before .before .before .before .before .before .loop .inv .2) .ready .placed .heights-long, (c .before .before .before .before .before .before .before .before .loop .inv .2) .ready .placed .blinds-long, c .before .before .before .before .before .before .before .before .loop .inv .0, omega (arith, c .before .before .before .before .before .before .before .loop-test .taken),
-    Cycle.end-inside _ _ _ _ _ _ _ _ _ ((c .before .before .before .before .before .before .before .before .loop .inv .2) .ready), c .before .before .before .before .before .before .before .before .before .before .before .before .pre .1 .0 .floor-low, (c .before .before .before .before .before .before .before .before .loop .inv .2) .ready .height-low))
+interp-region-step-requires t c κs = (
+  (c .before .before .before .before .before .before .before .before .loop .inv .2) .ready .placed .of,
+  (
+    (c .before .before .before .before .before .before .before .before .loop .inv .2) .ready .placed .heights-long,
+    (c .before .before .before .before .before .before .before .before .loop .inv .2) .ready .placed .blinds-long,
+    c .before .before .before .before .before .before .before .before .loop .inv .0,
+    omega (arith, c .before .before .before .before .before .before .before .loop-test .taken),
+    Cycle.end-inside _ _ _ _ _ _ _ _ _ ((c .before .before .before .before .before .before .before .before .loop .inv .2) .ready),
+    c .before .before .before .before .before .before .before .before .before .before .before .before .pre .1 .0 .floor-low,
+    (c .before .before .before .before .before .before .before .before .loop .inv .2) .ready .height-low,
+  ),
+)
 
 interp-region-enum-told : (t : ℕ) → interp-region-lts.Need-enum-told (
   instr-at-reads.Asked,
@@ -753,11 +849,19 @@ interp-region-returns : (t : ℕ) → interp-region-lts.Need-returns (
   block-at-below t,
   block-at.Post,
 ) (interp-region-at t) interp-region.Post interp-region-Inv-loop interp-region-μ-loop
-interp-region-returns t c =
-    (c .before .before .before .before .before .before .step .ensures .0, c .before .before .before .before .before .before .before .before .before .before .before .before .before .before .before .loop .inv .1, Cycle.walking-refused (c .before .before .before .before .before .before .before .before .before .before .before .before .before .before .before .before .before .before .before .args .t .now) (c .before .before .before .before .before .before .before .before .before .before .before .before .before .before .before .before .before .before .before .args .heights .now) (c .before .before .before .before .before .before .before .before .before .before .before .before .before .before .before .before .before .before .before .args .blinds .now) (c .before .before .before .before .before .before .before .before .before .before .before .before .before .before .before .before .before .before .before .args .x) (c .before .before .before .before .before .before .before .before .before .before .before .before .before .before .before .before .before .before .before .args .start) (c .before .before .before .before .before .before .before .before .before .before .before .before .before .before .before .before .before .before .before .args .end) (c .before .before .before .before .before .before .before .before .before .before .before .before .before .before .before .before .before .before .before .args .floor) (at (c .before .before .before .before .before .before .before .before .before .before .before .before .before .before .before .before .before .before .before .args .height) (c .before .before .before .before .before .before .before .before .before .before .before .before .before .before .before .before .before .before .before .args .slots .now) (c .before .before .before .before .before .before .before .before .before .before .before .before .before .before .before .before .before .before .before .args .places .now)) (breaksIn (c .before .before .before .before .before .before .before .before .before .before .before .before .before .before .before .before .before .before .before .args .b) (c .before .before .before .before .before .before .before .before .before .before .before .before .before .before .before .before .before .before .before .args .broken .now) (c .before .before .before .before .before .before .before .before .before .before .before .before .before .before .before .before .before .before .before .args .held .now)) (c .before .before .before .before .before .before .before .before .before .before .before .before .before .before .before .loop .heights) (c .before .before .before .before .before .before .before .before .before .before .before .before .before .before .before .loop .blinds)
-    (c .before .before .before .before .before .before .before .before .before .before .before .before .before .before .before .loop .ip) (at (c .before .before .before .before .before .before .before .before .before .before .before .before .before .before .before .loop .h) (c .before .before .before .before .before .before .before .before .before .before .before .before .before .before .before .loop .slots) (c .before .before .before .before .before .before .before .before .before .before .before .before .before .before .before .loop .places)) (breaksIn (c .before .before .before .before .before .before .before .before .before .before .before .before .before .before .before .loop .k) (c .before .before .before .before .before .before .before .before .before .before .before .before .before .before .before .loop .broken) (c .before .before .before .before .before .before .before .before .before .before .before .before .before .before .before .loop .held)) (c .before .before .before .before .before .before .before .before .before .before .before .before .before .before .before .loop .inv .2) (c .before .before .before .before .before .before .step .result) _ _ _ (c .before .before .before .before .before .before .step .ensures .1) (sym (passed-no _ (c .enum-told2 .given .1))) (record { flow = Refused
-    (c .before .before .before .before .before .before .step .result .verdict); state = at (c .before .before .before .before .before .before .before .before .before .before .before .before .before .before .before .loop .h) (c .before .before .before .before .before .before .step .last .1 .1 .1 .0) (c .before .before .before .before .before .before .step .last .1 .1 .1 .1 .0); breaks = breaksIn (c .before .before .before .before .before .before .before .before .before .before .before .before .before .before .before .loop .k) (c .before .before .before .before .before .before .before .before .before .before .before .before .before .before .before .loop .broken)
-    (c .before .before .before .before .before .before .before .before .before .before .before .before .before .before .before .loop .held) }) _ refl, ((c .before .before .before .before .before .before .before .before .before .before .before .before .before .before .before .loop .inv .2) .ready .height-low, (c .before .before .before .before .before .before .before .before .before .before .before .before .before .before .before .loop .inv .2) .ready .breaks-low))
+interp-region-returns t c = (
+  c .before .before .before .before .before .before .step .ensures .0,
+  c .before .before .before .before .before .before .before .before .before .before .before .before .before .before .before .loop .inv .1,
+  Cycle.walking-refused (c .before .before .before .before .before .before .before .before .before .before .before .before .before .before .before .before .before .before .before .args .t .now) (c .before .before .before .before .before .before .before .before .before .before .before .before .before .before .before .before .before .before .before .args .heights .now) (c .before .before .before .before .before .before .before .before .before .before .before .before .before .before .before .before .before .before .before .args .blinds .now) (c .before .before .before .before .before .before .before .before .before .before .before .before .before .before .before .before .before .before .before .args .x) (c .before .before .before .before .before .before .before .before .before .before .before .before .before .before .before .before .before .before .before .args .start) (c .before .before .before .before .before .before .before .before .before .before .before .before .before .before .before .before .before .before .before .args .end) (c .before .before .before .before .before .before .before .before .before .before .before .before .before .before .before .before .before .before .before .args .floor) (at (c .before .before .before .before .before .before .before .before .before .before .before .before .before .before .before .before .before .before .before .args .height) (c .before .before .before .before .before .before .before .before .before .before .before .before .before .before .before .before .before .before .before .args .slots .now) (c .before .before .before .before .before .before .before .before .before .before .before .before .before .before .before .before .before .before .before .args .places .now)) (breaksIn (c .before .before .before .before .before .before .before .before .before .before .before .before .before .before .before .before .before .before .before .args .b) (c .before .before .before .before .before .before .before .before .before .before .before .before .before .before .before .before .before .before .before .args .broken .now) (c .before .before .before .before .before .before .before .before .before .before .before .before .before .before .before .before .before .before .before .args .held .now)) (c .before .before .before .before .before .before .before .before .before .before .before .before .before .before .before .loop .heights) (c .before .before .before .before .before .before .before .before .before .before .before .before .before .before .before .loop .blinds)
+      (c .before .before .before .before .before .before .before .before .before .before .before .before .before .before .before .loop .ip) (at (c .before .before .before .before .before .before .before .before .before .before .before .before .before .before .before .loop .h) (c .before .before .before .before .before .before .before .before .before .before .before .before .before .before .before .loop .slots) (c .before .before .before .before .before .before .before .before .before .before .before .before .before .before .before .loop .places)) (breaksIn (c .before .before .before .before .before .before .before .before .before .before .before .before .before .before .before .loop .k) (c .before .before .before .before .before .before .before .before .before .before .before .before .before .before .before .loop .broken) (c .before .before .before .before .before .before .before .before .before .before .before .before .before .before .before .loop .held)) (c .before .before .before .before .before .before .before .before .before .before .before .before .before .before .before .loop .inv .2) (c .before .before .before .before .before .before .step .result) _ _ _ (c .before .before .before .before .before .before .step .ensures .1) (sym (passed-no _ (c .enum-told2 .given .1))) (record {
+        flow = Refused
+            (c .before .before .before .before .before .before .step .result .verdict);
+        state = at (c .before .before .before .before .before .before .before .before .before .before .before .before .before .before .before .loop .h) (c .before .before .before .before .before .before .step .last .1 .1 .1 .0) (c .before .before .before .before .before .before .step .last .1 .1 .1 .1 .0);
+        breaks = breaksIn (c .before .before .before .before .before .before .before .before .before .before .before .before .before .before .before .loop .k) (c .before .before .before .before .before .before .before .before .before .before .before .before .before .before .before .loop .broken)
+            (c .before .before .before .before .before .before .before .before .before .before .before .before .before .before .before .loop .held);
+      }) _ refl,
+  ((c .before .before .before .before .before .before .before .before .before .before .before .before .before .before .before .loop .inv .2) .ready .height-low, (c .before .before .before .before .before .before .before .before .before .before .before .before .before .before .before .loop .inv .2) .ready .breaks-low),
+)
 
 -- src/lib.rt:55:5
 interp-region-loop-less : (t : ℕ) → interp-region-lts.Need-loop-less (
@@ -771,8 +875,13 @@ interp-region-loop-less : (t : ℕ) → interp-region-lts.Need-loop-less (
   block-at.Post,
 ) (interp-region-at t) interp-region.Post interp-region-Inv-loop interp-region-μ-loop
 interp-region-loop-less t c =
-    omega (arith, c .before .before .before .before .before .before .before .before .before .before .before .before .before .before .loop-test .taken, c .before .before .before .before .before .before .step .ensures .1 .moved (sym (passed-yes _ (c .enum-told .given .1))) (c .before .before .before .before .before .before .before .before .before .before .before .before .before .before .loop-test .taken) (Cycle.straight-here (c .before .before .before .before .before .before .before .before .before .before .before .before .before .before .before .before .before .before .before .args .t .now) (c .before .before .before .before .before .before .before .before .before .before .before .before .before .before .before .before .before .before .before .args .x)
-    (c .before .before .before .before .before .before .before .before .before .before .before .before .before .before .before .loop .ip) _ (c .before .before .before .before .before .before .before .before .before .before .before .before .before .instr-at .ensures) _ (c .before .before .before .before .before .before .before .before .before .before .before .before .is-straight .ensures) (c .before .before .before .before .before .before .before .before .before .before .before .if1 .taken)), c .before .before .before .before .before .before .step .ensures .1 .to)
+    omega (
+      arith,
+      c .before .before .before .before .before .before .before .before .before .before .before .before .before .before .loop-test .taken,
+      c .before .before .before .before .before .before .step .ensures .1 .moved (sym (passed-yes _ (c .enum-told .given .1))) (c .before .before .before .before .before .before .before .before .before .before .before .before .before .before .loop-test .taken) (Cycle.straight-here (c .before .before .before .before .before .before .before .before .before .before .before .before .before .before .before .before .before .before .before .args .t .now) (c .before .before .before .before .before .before .before .before .before .before .before .before .before .before .before .before .before .before .before .args .x)
+          (c .before .before .before .before .before .before .before .before .before .before .before .before .before .before .before .loop .ip) _ (c .before .before .before .before .before .before .before .before .before .before .before .before .before .instr-at .ensures) _ (c .before .before .before .before .before .before .before .before .before .before .before .before .is-straight .ensures) (c .before .before .before .before .before .before .before .before .before .before .before .if1 .taken)),
+      c .before .before .before .before .before .before .step .ensures .1 .to,
+    )
 
 -- src/lib.rt:55:5
 interp-region-loop-again : (t : ℕ) → interp-region-lts.Need-loop-again (
@@ -785,10 +894,13 @@ interp-region-loop-again : (t : ℕ) → interp-region-lts.Need-loop-again (
   block-at-below t,
   block-at.Post,
 ) (interp-region-at t) interp-region.Post interp-region-Inv-loop interp-region-μ-loop
-interp-region-loop-again t c =
-    (c .before .before .before .before .before .before .step .ensures .0, c .before .before .before .before .before .before .before .before .before .before .before .before .before .before .before .loop .inv .1, Cycle.walking-ran (c .before .before .before .before .before .before .before .before .before .before .before .before .before .before .before .before .before .before .before .args .t .now) (c .before .before .before .before .before .before .before .before .before .before .before .before .before .before .before .before .before .before .before .args .heights .now) (c .before .before .before .before .before .before .before .before .before .before .before .before .before .before .before .before .before .before .before .args .blinds .now) (c .before .before .before .before .before .before .before .before .before .before .before .before .before .before .before .before .before .before .before .args .x) (c .before .before .before .before .before .before .before .before .before .before .before .before .before .before .before .before .before .before .before .args .start) (c .before .before .before .before .before .before .before .before .before .before .before .before .before .before .before .before .before .before .before .args .end) (c .before .before .before .before .before .before .before .before .before .before .before .before .before .before .before .before .before .before .before .args .floor) (at (c .before .before .before .before .before .before .before .before .before .before .before .before .before .before .before .before .before .before .before .args .height) (c .before .before .before .before .before .before .before .before .before .before .before .before .before .before .before .before .before .before .before .args .slots .now) (c .before .before .before .before .before .before .before .before .before .before .before .before .before .before .before .before .before .before .before .args .places .now)) (breaksIn (c .before .before .before .before .before .before .before .before .before .before .before .before .before .before .before .before .before .before .before .args .b) (c .before .before .before .before .before .before .before .before .before .before .before .before .before .before .before .before .before .before .before .args .broken .now) (c .before .before .before .before .before .before .before .before .before .before .before .before .before .before .before .before .before .before .before .args .held .now)) (c .before .before .before .before .before .before .before .before .before .before .before .before .before .before .before .loop .heights) (c .before .before .before .before .before .before .before .before .before .before .before .before .before .before .before .loop .blinds)
-    (c .before .before .before .before .before .before .before .before .before .before .before .before .before .before .before .loop .ip) (at (c .before .before .before .before .before .before .before .before .before .before .before .before .before .before .before .loop .h) (c .before .before .before .before .before .before .before .before .before .before .before .before .before .before .before .loop .slots) (c .before .before .before .before .before .before .before .before .before .before .before .before .before .before .before .loop .places)) (breaksIn (c .before .before .before .before .before .before .before .before .before .before .before .before .before .before .before .loop .k) (c .before .before .before .before .before .before .before .before .before .before .before .before .before .before .before .loop .broken) (c .before .before .before .before .before .before .before .before .before .before .before .before .before .before .before .loop .held)) (c .before .before .before .before .before .before .before .before .before .before .before .before .before .before .before .loop .inv .2) (c .before .before .before .before .before .before .step .result) _ _ _ (c .before .before .before .before .before .before .step .ensures .1) (sym (passed-yes _ (c .enum-told .given .1))) (c .before .before .before .before .before .before .step .kept .1 .0)
-    (c .before .before .before .before .before .before .step .kept .1 .1 .0))
+interp-region-loop-again t c = (
+  c .before .before .before .before .before .before .step .ensures .0,
+  c .before .before .before .before .before .before .before .before .before .before .before .before .before .before .before .loop .inv .1,
+  Cycle.walking-ran (c .before .before .before .before .before .before .before .before .before .before .before .before .before .before .before .before .before .before .before .args .t .now) (c .before .before .before .before .before .before .before .before .before .before .before .before .before .before .before .before .before .before .before .args .heights .now) (c .before .before .before .before .before .before .before .before .before .before .before .before .before .before .before .before .before .before .before .args .blinds .now) (c .before .before .before .before .before .before .before .before .before .before .before .before .before .before .before .before .before .before .before .args .x) (c .before .before .before .before .before .before .before .before .before .before .before .before .before .before .before .before .before .before .before .args .start) (c .before .before .before .before .before .before .before .before .before .before .before .before .before .before .before .before .before .before .before .args .end) (c .before .before .before .before .before .before .before .before .before .before .before .before .before .before .before .before .before .before .before .args .floor) (at (c .before .before .before .before .before .before .before .before .before .before .before .before .before .before .before .before .before .before .before .args .height) (c .before .before .before .before .before .before .before .before .before .before .before .before .before .before .before .before .before .before .before .args .slots .now) (c .before .before .before .before .before .before .before .before .before .before .before .before .before .before .before .before .before .before .before .args .places .now)) (breaksIn (c .before .before .before .before .before .before .before .before .before .before .before .before .before .before .before .before .before .before .before .args .b) (c .before .before .before .before .before .before .before .before .before .before .before .before .before .before .before .before .before .before .before .args .broken .now) (c .before .before .before .before .before .before .before .before .before .before .before .before .before .before .before .before .before .before .before .args .held .now)) (c .before .before .before .before .before .before .before .before .before .before .before .before .before .before .before .loop .heights) (c .before .before .before .before .before .before .before .before .before .before .before .before .before .before .before .loop .blinds)
+      (c .before .before .before .before .before .before .before .before .before .before .before .before .before .before .before .loop .ip) (at (c .before .before .before .before .before .before .before .before .before .before .before .before .before .before .before .loop .h) (c .before .before .before .before .before .before .before .before .before .before .before .before .before .before .before .loop .slots) (c .before .before .before .before .before .before .before .before .before .before .before .before .before .before .before .loop .places)) (breaksIn (c .before .before .before .before .before .before .before .before .before .before .before .before .before .before .before .loop .k) (c .before .before .before .before .before .before .before .before .before .before .before .before .before .before .before .loop .broken) (c .before .before .before .before .before .before .before .before .before .before .before .before .before .before .before .loop .held)) (c .before .before .before .before .before .before .before .before .before .before .before .before .before .before .before .loop .inv .2) (c .before .before .before .before .before .before .step .result) _ _ _ (c .before .before .before .before .before .before .step .ensures .1) (sym (passed-yes _ (c .enum-told .given .1))) (c .before .before .before .before .before .before .step .kept .1 .0)
+      (c .before .before .before .before .before .before .step .kept .1 .1 .0),
+)
 
 -- src/lib.rt:82:17
 interp-region-cast-block-at : (t : ℕ) → interp-region-lts.Need-cast-block-at (
@@ -814,9 +926,21 @@ interp-region-block-at-requires : (t : ℕ) → interp-region-lts.Need-block-at-
   block-at-below t,
   block-at.Post,
 ) (interp-region-at t) interp-region.Post interp-region-Inv-loop interp-region-μ-loop
-interp-region-block-at-requires t c κs =
-    (omega (arith, c .before .before .before .before .before .before .before .before .before .before .before .before .before .before .pre .0, (c .before .before .before .before .before .before .before .before .before .loop-test .taken), (c .before .before .before .before .before .before .before .before .before .before .loop .inv .2) .onward), ((c .before .before .before .before .before .before .before .before .before .before .loop .inv .2) .ready, ((c .before .before .before .before .before .before .before .before .before .before .loop .inv .0, c .before .before .before .before .before .before .before .before .before .before .loop .inv .1), ((c .before .before .before .before .before .before .before .before .before .loop-test .taken),
-    c .before .before .before .before .before .before .before .before .instr-at .ensures .code-low, (sym (c .before .before .before .before .before .before .before .is-straight .ensures) ∙ c .before .before .before .before .before .before .if1 .left), (Codes.leads-here (c .before .before .before .before .before .before .before .before .before .before .before .before .before .before .args .t .now) (c .before .before .before .before .before .before .before .before .before .before .before .before .before .before .args .x .chunk) (c .before .before .before .before .before .before .before .before .before .before .before .before .before .before .args .x .first) (c .before .before .before .before .before .before .before .before .before .before .before .before .before .before .args .x .count) (c .before .before .before .before .before .before .before .before .before .before .loop .ip) (c .before .before .before .before .before .before .before .before .before .before .before .before .before .before .pre .1 .0 .placed .of .first) (c .before .before .before .before .before .before .before .before .before .before .before .before .before .before .pre .1 .0 .placed .of .count) (c .before .before .before .before .before .before .before .before .instr-at .result) (c .before .before .before .before .before .before .before .before .instr-at .ensures))))))
+interp-region-block-at-requires t c κs = (
+  omega (arith, c .before .before .before .before .before .before .before .before .before .before .before .before .before .before .pre .0, (c .before .before .before .before .before .before .before .before .before .loop-test .taken), (c .before .before .before .before .before .before .before .before .before .before .loop .inv .2) .onward),
+  (
+    (c .before .before .before .before .before .before .before .before .before .before .loop .inv .2) .ready,
+    (
+      (c .before .before .before .before .before .before .before .before .before .before .loop .inv .0, c .before .before .before .before .before .before .before .before .before .before .loop .inv .1),
+      (
+        (c .before .before .before .before .before .before .before .before .before .loop-test .taken),
+        c .before .before .before .before .before .before .before .before .instr-at .ensures .code-low,
+        (sym (c .before .before .before .before .before .before .before .is-straight .ensures) ∙ c .before .before .before .before .before .before .if1 .left),
+        (Codes.leads-here (c .before .before .before .before .before .before .before .before .before .before .before .before .before .before .args .t .now) (c .before .before .before .before .before .before .before .before .before .before .before .before .before .before .args .x .chunk) (c .before .before .before .before .before .before .before .before .before .before .before .before .before .before .args .x .first) (c .before .before .before .before .before .before .before .before .before .before .before .before .before .before .args .x .count) (c .before .before .before .before .before .before .before .before .before .before .loop .ip) (c .before .before .before .before .before .before .before .before .before .before .before .before .before .before .pre .1 .0 .placed .of .first) (c .before .before .before .before .before .before .before .before .before .before .before .before .before .before .pre .1 .0 .placed .of .count) (c .before .before .before .before .before .before .before .before .instr-at .result) (c .before .before .before .before .before .before .before .before .instr-at .ensures)),
+      ),
+    ),
+  ),
+)
 
 interp-region-enum-told-3 : (t : ℕ) → interp-region-lts.Need-enum-told-3 (
   instr-at-reads.Asked,
@@ -854,12 +978,15 @@ interp-region-loop-again-2 : (t : ℕ) → interp-region-lts.Need-loop-again-2 (
   block-at-below t,
   block-at.Post,
 ) (interp-region-at t) interp-region.Post interp-region-Inv-loop interp-region-μ-loop
-interp-region-loop-again-2 t c =
-    (c .before .before .before .before .before .before .before .before .block-at .ensures .0, c .before .before .before .before .before .before .before .before .block-at .ensures .1, Cycle.walking-past (c .before .before .before .before .before .before .before .before .before .before .before .before .before .before .before .before .before .before .before .before .before .before .before .args .t .now) (c .before .before .before .before .before .before .before .before .before .before .before .before .before .before .before .before .before .before .before .before .before .before .before .args .heights .now) (c .before .before .before .before .before .before .before .before .before .before .before .before .before .before .before .before .before .before .before .before .before .before .before .args .blinds .now) (c .before .before .before .before .before .before .before .before .before .before .before .before .before .before .before .before .before .before .before .before .before .before .before .args .x) (c .before .before .before .before .before .before .before .before .before .before .before .before .before .before .before .before .before .before .before .before .before .before .before .args .start) (c .before .before .before .before .before .before .before .before .before .before .before .before .before .before .before .before .before .before .before .before .before .before .before .args .end) (c .before .before .before .before .before .before .before .before .before .before .before .before .before .before .before .before .before .before .before .before .before .before .before .args .floor) (at (c .before .before .before .before .before .before .before .before .before .before .before .before .before .before .before .before .before .before .before .before .before .before .before .args .height) (c .before .before .before .before .before .before .before .before .before .before .before .before .before .before .before .before .before .before .before .before .before .before .before .args .slots .now) (c .before .before .before .before .before .before .before .before .before .before .before .before .before .before .before .before .before .before .before .before .before .before .before .args .places .now)) (breaksIn (c .before .before .before .before .before .before .before .before .before .before .before .before .before .before .before .before .before .before .before .before .before .before .before .args .b) (c .before .before .before .before .before .before .before .before .before .before .before .before .before .before .before .before .before .before .before .before .before .before .before .args .broken .now) (c .before .before .before .before .before .before .before .before .before .before .before .before .before .before .before .before .before .before .before .before .before .before .before .args .held .now)) (c .before .before .before .before .before .before .before .before .before .before .before .before .before .before .before .before .before .before .before .loop .heights)
-    (c .before .before .before .before .before .before .before .before .before .before .before .before .before .before .before .before .before .before .before .loop .blinds) (c .before .before .before .before .before .before .before .before .before .before .before .before .before .before .before .before .before .before .before .loop .ip) (at (c .before .before .before .before .before .before .before .before .before .before .before .before .before .before .before .before .before .before .before .loop .h) (c .before .before .before .before .before .before .before .before .before .before .before .before .before .before .before .before .before .before .before .loop .slots) (c .before .before .before .before .before .before .before .before .before .before .before .before .before .before .before .before .before .before .before .loop .places)) (breaksIn (c .before .before .before .before .before .before .before .before .before .before .before .before .before .before .before .before .before .before .before .loop .k) (c .before .before .before .before .before .before .before .before .before .before .before .before .before .before .before .before .before .before .before .loop .broken) (c .before .before .before .before .before .before .before .before .before .before .before .before .before .before .before .before .before .before .before .loop .held)) (c .before .before .before .before .before .before .before .before .before .before .before .before .before .before .before .before .before .before .before .loop .inv .2) (c .before .before .before .before .before .before .before .before .before .before .before .before .before .before .before .before .before .before .loop-test .taken) (c .before .before .before .before .before .before .before .before .before .before .before .before .before .before .before .before .before .instr-at .result .code) (c .before .before .before .before .before .before .before .before .before .before .before .before .before .before .before .before .before .instr-at .result .a) (Codes.leads-here (c .before .before .before .before .before .before .before .before .before .before .before .before .before .before .before .before .before .before .before .before .before .before .before .args .t .now) (c .before .before .before .before .before .before .before .before .before .before .before .before .before .before .before .before .before .before .before .before .before .before .before .args .x .chunk) (c .before .before .before .before .before .before .before .before .before .before .before .before .before .before .before .before .before .before .before .before .before .before .before .args .x .first) (c .before .before .before .before .before .before .before .before .before .before .before .before .before .before .before .before .before .before .before .before .before .before .before .args .x .count) (c .before .before .before .before .before .before .before .before .before .before .before .before .before .before .before .before .before .before .before .loop .ip) (c .before .before .before .before .before .before .before .before .before .before .before .before .before .before .before .before .before .before .before .before .before .before .before .pre .1 .0 .placed .of .first) (c .before .before .before .before .before .before .before .before .before .before .before .before .before .before .before .before .before .before .before .before .before .before .before .pre .1 .0 .placed .of .count) (c .before .before .before .before .before .before .before .before .before .before .before .before .before .before .before .before .before .instr-at .result) (c .before .before .before .before .before .before .before .before .before .before .before .before .before .before .before .before .before .instr-at .ensures)) (onwardIn
-    (c .before .before .before .before .before .before .before .before .block-at .result) (c .before .before .before .before .before .before .before .before .block-at .last .1 .1 .1 .0) (c .before .before .before .before .before .before .before .before .block-at .last .1 .1 .1 .1 .0) (c .before .before .before .before .before .before .before .before .block-at .last .1 .1 .1 .1 .1 .0)
-    (c .before .before .before .before .before .before .before .before .block-at .last .1 .1 .1 .1 .1 .1 .0)) _ _ (c .before .before .before .before .before .before .before .before .block-at .ensures .2) (c .enum-told3 .given .1) (c .before .before .before .before .before .before .before .before .block-at .kept .1 .0) (c .before .before .before .before .before .before .before .before .block-at .kept .1 .1 .0)
-    (c .before .before .before .before .before .before .before .before .block-at .ensures .3 .0) (c .before .before .before .before .before .before .before .before .block-at .ensures .3 .1) (c .before .before .before .before .before .before .before .before .block-at .ensures .3 .2 .0) (c .before .before .before .before .before .before .before .before .block-at .ensures .3 .2 .1))
+interp-region-loop-again-2 t c = (
+  c .before .before .before .before .before .before .before .before .block-at .ensures .0,
+  c .before .before .before .before .before .before .before .before .block-at .ensures .1,
+  Cycle.walking-past (c .before .before .before .before .before .before .before .before .before .before .before .before .before .before .before .before .before .before .before .before .before .before .before .args .t .now) (c .before .before .before .before .before .before .before .before .before .before .before .before .before .before .before .before .before .before .before .before .before .before .before .args .heights .now) (c .before .before .before .before .before .before .before .before .before .before .before .before .before .before .before .before .before .before .before .before .before .before .before .args .blinds .now) (c .before .before .before .before .before .before .before .before .before .before .before .before .before .before .before .before .before .before .before .before .before .before .before .args .x) (c .before .before .before .before .before .before .before .before .before .before .before .before .before .before .before .before .before .before .before .before .before .before .before .args .start) (c .before .before .before .before .before .before .before .before .before .before .before .before .before .before .before .before .before .before .before .before .before .before .before .args .end) (c .before .before .before .before .before .before .before .before .before .before .before .before .before .before .before .before .before .before .before .before .before .before .before .args .floor) (at (c .before .before .before .before .before .before .before .before .before .before .before .before .before .before .before .before .before .before .before .before .before .before .before .args .height) (c .before .before .before .before .before .before .before .before .before .before .before .before .before .before .before .before .before .before .before .before .before .before .before .args .slots .now) (c .before .before .before .before .before .before .before .before .before .before .before .before .before .before .before .before .before .before .before .before .before .before .before .args .places .now)) (breaksIn (c .before .before .before .before .before .before .before .before .before .before .before .before .before .before .before .before .before .before .before .before .before .before .before .args .b) (c .before .before .before .before .before .before .before .before .before .before .before .before .before .before .before .before .before .before .before .before .before .before .before .args .broken .now) (c .before .before .before .before .before .before .before .before .before .before .before .before .before .before .before .before .before .before .before .before .before .before .before .args .held .now)) (c .before .before .before .before .before .before .before .before .before .before .before .before .before .before .before .before .before .before .before .loop .heights)
+      (c .before .before .before .before .before .before .before .before .before .before .before .before .before .before .before .before .before .before .before .loop .blinds) (c .before .before .before .before .before .before .before .before .before .before .before .before .before .before .before .before .before .before .before .loop .ip) (at (c .before .before .before .before .before .before .before .before .before .before .before .before .before .before .before .before .before .before .before .loop .h) (c .before .before .before .before .before .before .before .before .before .before .before .before .before .before .before .before .before .before .before .loop .slots) (c .before .before .before .before .before .before .before .before .before .before .before .before .before .before .before .before .before .before .before .loop .places)) (breaksIn (c .before .before .before .before .before .before .before .before .before .before .before .before .before .before .before .before .before .before .before .loop .k) (c .before .before .before .before .before .before .before .before .before .before .before .before .before .before .before .before .before .before .before .loop .broken) (c .before .before .before .before .before .before .before .before .before .before .before .before .before .before .before .before .before .before .before .loop .held)) (c .before .before .before .before .before .before .before .before .before .before .before .before .before .before .before .before .before .before .before .loop .inv .2) (c .before .before .before .before .before .before .before .before .before .before .before .before .before .before .before .before .before .before .loop-test .taken) (c .before .before .before .before .before .before .before .before .before .before .before .before .before .before .before .before .before .instr-at .result .code) (c .before .before .before .before .before .before .before .before .before .before .before .before .before .before .before .before .before .instr-at .result .a) (Codes.leads-here (c .before .before .before .before .before .before .before .before .before .before .before .before .before .before .before .before .before .before .before .before .before .before .before .args .t .now) (c .before .before .before .before .before .before .before .before .before .before .before .before .before .before .before .before .before .before .before .before .before .before .before .args .x .chunk) (c .before .before .before .before .before .before .before .before .before .before .before .before .before .before .before .before .before .before .before .before .before .before .before .args .x .first) (c .before .before .before .before .before .before .before .before .before .before .before .before .before .before .before .before .before .before .before .before .before .before .before .args .x .count) (c .before .before .before .before .before .before .before .before .before .before .before .before .before .before .before .before .before .before .before .loop .ip) (c .before .before .before .before .before .before .before .before .before .before .before .before .before .before .before .before .before .before .before .before .before .before .before .pre .1 .0 .placed .of .first) (c .before .before .before .before .before .before .before .before .before .before .before .before .before .before .before .before .before .before .before .before .before .before .before .pre .1 .0 .placed .of .count) (c .before .before .before .before .before .before .before .before .before .before .before .before .before .before .before .before .before .instr-at .result) (c .before .before .before .before .before .before .before .before .before .before .before .before .before .before .before .before .before .instr-at .ensures)) (onwardIn
+      (c .before .before .before .before .before .before .before .before .block-at .result) (c .before .before .before .before .before .before .before .before .block-at .last .1 .1 .1 .0) (c .before .before .before .before .before .before .before .before .block-at .last .1 .1 .1 .1 .0) (c .before .before .before .before .before .before .before .before .block-at .last .1 .1 .1 .1 .1 .0)
+      (c .before .before .before .before .before .before .before .before .block-at .last .1 .1 .1 .1 .1 .1 .0)) _ _ (c .before .before .before .before .before .before .before .before .block-at .ensures .2) (c .enum-told3 .given .1) (c .before .before .before .before .before .before .before .before .block-at .kept .1 .0) (c .before .before .before .before .before .before .before .before .block-at .kept .1 .1 .0)
+      (c .before .before .before .before .before .before .before .before .block-at .ensures .3 .0) (c .before .before .before .before .before .before .before .before .block-at .ensures .3 .1) (c .before .before .before .before .before .before .before .before .block-at .ensures .3 .2 .0) (c .before .before .before .before .before .before .before .before .block-at .ensures .3 .2 .1),
+)
 
 -- src/lib.rt:97:21
 interp-region-enum-told-4 : (t : ℕ) → interp-region-lts.Need-enum-told-4 (
@@ -911,11 +1038,15 @@ interp-region-returns-2 : (t : ℕ) → interp-region-lts.Need-returns-2 (
   block-at-below t,
   block-at.Post,
 ) (interp-region-at t) interp-region.Post interp-region-Inv-loop interp-region-μ-loop
-interp-region-returns-2 t c =
-    (c .before .before .before .before .before .before .before .before .block-at .ensures .0, c .before .before .before .before .before .before .before .before .block-at .ensures .1, Cycle.walking-ended (c .before .before .before .before .before .before .before .before .before .before .before .before .before .before .before .before .before .before .before .before .before .before .before .args .t .now) (c .before .before .before .before .before .before .before .before .before .before .before .before .before .before .before .before .before .before .before .before .before .before .before .args .heights .now) (c .before .before .before .before .before .before .before .before .before .before .before .before .before .before .before .before .before .before .before .before .before .before .before .args .blinds .now) (c .before .before .before .before .before .before .before .before .before .before .before .before .before .before .before .before .before .before .before .before .before .before .before .args .x) (c .before .before .before .before .before .before .before .before .before .before .before .before .before .before .before .before .before .before .before .before .before .before .before .args .start) (c .before .before .before .before .before .before .before .before .before .before .before .before .before .before .before .before .before .before .before .before .before .before .before .args .end) (c .before .before .before .before .before .before .before .before .before .before .before .before .before .before .before .before .before .before .before .before .before .before .before .args .floor) (at (c .before .before .before .before .before .before .before .before .before .before .before .before .before .before .before .before .before .before .before .before .before .before .before .args .height) (c .before .before .before .before .before .before .before .before .before .before .before .before .before .before .before .before .before .before .before .before .before .before .before .args .slots .now) (c .before .before .before .before .before .before .before .before .before .before .before .before .before .before .before .before .before .before .before .before .before .before .before .args .places .now)) (breaksIn (c .before .before .before .before .before .before .before .before .before .before .before .before .before .before .before .before .before .before .before .before .before .before .before .args .b) (c .before .before .before .before .before .before .before .before .before .before .before .before .before .before .before .before .before .before .before .before .before .before .before .args .broken .now) (c .before .before .before .before .before .before .before .before .before .before .before .before .before .before .before .before .before .before .before .before .before .before .before .args .held .now)) (c .before .before .before .before .before .before .before .before .before .before .before .before .before .before .before .before .before .before .before .loop .heights)
-    (c .before .before .before .before .before .before .before .before .before .before .before .before .before .before .before .before .before .before .before .loop .blinds) (c .before .before .before .before .before .before .before .before .before .before .before .before .before .before .before .before .before .before .before .loop .ip) (at (c .before .before .before .before .before .before .before .before .before .before .before .before .before .before .before .before .before .before .before .loop .h) (c .before .before .before .before .before .before .before .before .before .before .before .before .before .before .before .before .before .before .before .loop .slots) (c .before .before .before .before .before .before .before .before .before .before .before .before .before .before .before .before .before .before .before .loop .places)) (breaksIn (c .before .before .before .before .before .before .before .before .before .before .before .before .before .before .before .before .before .before .before .loop .k) (c .before .before .before .before .before .before .before .before .before .before .before .before .before .before .before .before .before .before .before .loop .broken) (c .before .before .before .before .before .before .before .before .before .before .before .before .before .before .before .before .before .before .before .loop .held)) (c .before .before .before .before .before .before .before .before .before .before .before .before .before .before .before .before .before .before .before .loop .inv .2) (c .before .before .before .before .before .before .before .before .before .before .before .before .before .before .before .before .before .before .loop-test .taken) (c .before .before .before .before .before .before .before .before .before .before .before .before .before .before .before .before .before .instr-at .result .code) (c .before .before .before .before .before .before .before .before .before .before .before .before .before .before .before .before .before .instr-at .result .a) (Codes.leads-here (c .before .before .before .before .before .before .before .before .before .before .before .before .before .before .before .before .before .before .before .before .before .before .before .args .t .now) (c .before .before .before .before .before .before .before .before .before .before .before .before .before .before .before .before .before .before .before .before .before .before .before .args .x .chunk) (c .before .before .before .before .before .before .before .before .before .before .before .before .before .before .before .before .before .before .before .before .before .before .before .args .x .first) (c .before .before .before .before .before .before .before .before .before .before .before .before .before .before .before .before .before .before .before .before .before .before .before .args .x .count) (c .before .before .before .before .before .before .before .before .before .before .before .before .before .before .before .before .before .before .before .loop .ip) (c .before .before .before .before .before .before .before .before .before .before .before .before .before .before .before .before .before .before .before .before .before .before .before .pre .1 .0 .placed .of .first) (c .before .before .before .before .before .before .before .before .before .before .before .before .before .before .before .before .before .before .before .before .before .before .before .pre .1 .0 .placed .of .count) (c .before .before .before .before .before .before .before .before .before .before .before .before .before .before .before .before .before .instr-at .result) (c .before .before .before .before .before .before .before .before .before .before .before .before .before .before .before .before .before .instr-at .ensures)) (onwardIn
-    (c .before .before .before .before .before .before .before .before .block-at .result) (c .before .before .before .before .before .before .before .before .block-at .last .1 .1 .1 .0) (c .before .before .before .before .before .before .before .before .block-at .last .1 .1 .1 .1 .0) (c .before .before .before .before .before .before .before .before .block-at .last .1 .1 .1 .1 .1 .0)
-    (c .before .before .before .before .before .before .before .before .block-at .last .1 .1 .1 .1 .1 .1 .0)) _ _ (c .before .before .before .before .before .before .before .before .block-at .ensures .2) (c .enum-told4 .given .1), c .before .before .before .before .before .before .before .before .block-at .ensures .3 .2)
+interp-region-returns-2 t c = (
+  c .before .before .before .before .before .before .before .before .block-at .ensures .0,
+  c .before .before .before .before .before .before .before .before .block-at .ensures .1,
+  Cycle.walking-ended (c .before .before .before .before .before .before .before .before .before .before .before .before .before .before .before .before .before .before .before .before .before .before .before .args .t .now) (c .before .before .before .before .before .before .before .before .before .before .before .before .before .before .before .before .before .before .before .before .before .before .before .args .heights .now) (c .before .before .before .before .before .before .before .before .before .before .before .before .before .before .before .before .before .before .before .before .before .before .before .args .blinds .now) (c .before .before .before .before .before .before .before .before .before .before .before .before .before .before .before .before .before .before .before .before .before .before .before .args .x) (c .before .before .before .before .before .before .before .before .before .before .before .before .before .before .before .before .before .before .before .before .before .before .before .args .start) (c .before .before .before .before .before .before .before .before .before .before .before .before .before .before .before .before .before .before .before .before .before .before .before .args .end) (c .before .before .before .before .before .before .before .before .before .before .before .before .before .before .before .before .before .before .before .before .before .before .before .args .floor) (at (c .before .before .before .before .before .before .before .before .before .before .before .before .before .before .before .before .before .before .before .before .before .before .before .args .height) (c .before .before .before .before .before .before .before .before .before .before .before .before .before .before .before .before .before .before .before .before .before .before .before .args .slots .now) (c .before .before .before .before .before .before .before .before .before .before .before .before .before .before .before .before .before .before .before .before .before .before .before .args .places .now)) (breaksIn (c .before .before .before .before .before .before .before .before .before .before .before .before .before .before .before .before .before .before .before .before .before .before .before .args .b) (c .before .before .before .before .before .before .before .before .before .before .before .before .before .before .before .before .before .before .before .before .before .before .before .args .broken .now) (c .before .before .before .before .before .before .before .before .before .before .before .before .before .before .before .before .before .before .before .before .before .before .before .args .held .now)) (c .before .before .before .before .before .before .before .before .before .before .before .before .before .before .before .before .before .before .before .loop .heights)
+      (c .before .before .before .before .before .before .before .before .before .before .before .before .before .before .before .before .before .before .before .loop .blinds) (c .before .before .before .before .before .before .before .before .before .before .before .before .before .before .before .before .before .before .before .loop .ip) (at (c .before .before .before .before .before .before .before .before .before .before .before .before .before .before .before .before .before .before .before .loop .h) (c .before .before .before .before .before .before .before .before .before .before .before .before .before .before .before .before .before .before .before .loop .slots) (c .before .before .before .before .before .before .before .before .before .before .before .before .before .before .before .before .before .before .before .loop .places)) (breaksIn (c .before .before .before .before .before .before .before .before .before .before .before .before .before .before .before .before .before .before .before .loop .k) (c .before .before .before .before .before .before .before .before .before .before .before .before .before .before .before .before .before .before .before .loop .broken) (c .before .before .before .before .before .before .before .before .before .before .before .before .before .before .before .before .before .before .before .loop .held)) (c .before .before .before .before .before .before .before .before .before .before .before .before .before .before .before .before .before .before .before .loop .inv .2) (c .before .before .before .before .before .before .before .before .before .before .before .before .before .before .before .before .before .before .loop-test .taken) (c .before .before .before .before .before .before .before .before .before .before .before .before .before .before .before .before .before .instr-at .result .code) (c .before .before .before .before .before .before .before .before .before .before .before .before .before .before .before .before .before .instr-at .result .a) (Codes.leads-here (c .before .before .before .before .before .before .before .before .before .before .before .before .before .before .before .before .before .before .before .before .before .before .before .args .t .now) (c .before .before .before .before .before .before .before .before .before .before .before .before .before .before .before .before .before .before .before .before .before .before .before .args .x .chunk) (c .before .before .before .before .before .before .before .before .before .before .before .before .before .before .before .before .before .before .before .before .before .before .before .args .x .first) (c .before .before .before .before .before .before .before .before .before .before .before .before .before .before .before .before .before .before .before .before .before .before .before .args .x .count) (c .before .before .before .before .before .before .before .before .before .before .before .before .before .before .before .before .before .before .before .loop .ip) (c .before .before .before .before .before .before .before .before .before .before .before .before .before .before .before .before .before .before .before .before .before .before .before .pre .1 .0 .placed .of .first) (c .before .before .before .before .before .before .before .before .before .before .before .before .before .before .before .before .before .before .before .before .before .before .before .pre .1 .0 .placed .of .count) (c .before .before .before .before .before .before .before .before .before .before .before .before .before .before .before .before .before .instr-at .result) (c .before .before .before .before .before .before .before .before .before .before .before .before .before .before .before .before .before .instr-at .ensures)) (onwardIn
+      (c .before .before .before .before .before .before .before .before .block-at .result) (c .before .before .before .before .before .before .before .before .block-at .last .1 .1 .1 .0) (c .before .before .before .before .before .before .before .before .block-at .last .1 .1 .1 .1 .0) (c .before .before .before .before .before .before .before .before .block-at .last .1 .1 .1 .1 .1 .0)
+      (c .before .before .before .before .before .before .before .before .block-at .last .1 .1 .1 .1 .1 .1 .0)) _ _ (c .before .before .before .before .before .before .before .before .block-at .ensures .2) (c .enum-told4 .given .1),
+  c .before .before .before .before .before .before .before .before .block-at .ensures .3 .2,
+)
 
 -- src/lib.rt:104:21
 interp-region-enum-told-5 : (t : ℕ) → interp-region-lts.Need-enum-told-5 (
@@ -967,11 +1098,15 @@ interp-region-returns-3 : (t : ℕ) → interp-region-lts.Need-returns-3 (
   block-at-below t,
   block-at.Post,
 ) (interp-region-at t) interp-region.Post interp-region-Inv-loop interp-region-μ-loop
-interp-region-returns-3 t c =
-    (c .before .before .before .before .before .before .before .before .block-at .ensures .0, c .before .before .before .before .before .before .before .before .block-at .ensures .1, Cycle.walking-stopped (c .before .before .before .before .before .before .before .before .before .before .before .before .before .before .before .before .before .before .before .before .before .before .before .args .t .now) (c .before .before .before .before .before .before .before .before .before .before .before .before .before .before .before .before .before .before .before .before .before .before .before .args .heights .now) (c .before .before .before .before .before .before .before .before .before .before .before .before .before .before .before .before .before .before .before .before .before .before .before .args .blinds .now) (c .before .before .before .before .before .before .before .before .before .before .before .before .before .before .before .before .before .before .before .before .before .before .before .args .x) (c .before .before .before .before .before .before .before .before .before .before .before .before .before .before .before .before .before .before .before .before .before .before .before .args .start) (c .before .before .before .before .before .before .before .before .before .before .before .before .before .before .before .before .before .before .before .before .before .before .before .args .end) (c .before .before .before .before .before .before .before .before .before .before .before .before .before .before .before .before .before .before .before .before .before .before .before .args .floor) (at (c .before .before .before .before .before .before .before .before .before .before .before .before .before .before .before .before .before .before .before .before .before .before .before .args .height) (c .before .before .before .before .before .before .before .before .before .before .before .before .before .before .before .before .before .before .before .before .before .before .before .args .slots .now) (c .before .before .before .before .before .before .before .before .before .before .before .before .before .before .before .before .before .before .before .before .before .before .before .args .places .now)) (breaksIn (c .before .before .before .before .before .before .before .before .before .before .before .before .before .before .before .before .before .before .before .before .before .before .before .args .b) (c .before .before .before .before .before .before .before .before .before .before .before .before .before .before .before .before .before .before .before .before .before .before .before .args .broken .now) (c .before .before .before .before .before .before .before .before .before .before .before .before .before .before .before .before .before .before .before .before .before .before .before .args .held .now)) (c .before .before .before .before .before .before .before .before .before .before .before .before .before .before .before .before .before .before .before .loop .heights)
-    (c .before .before .before .before .before .before .before .before .before .before .before .before .before .before .before .before .before .before .before .loop .blinds) (c .before .before .before .before .before .before .before .before .before .before .before .before .before .before .before .before .before .before .before .loop .ip) (at (c .before .before .before .before .before .before .before .before .before .before .before .before .before .before .before .before .before .before .before .loop .h) (c .before .before .before .before .before .before .before .before .before .before .before .before .before .before .before .before .before .before .before .loop .slots) (c .before .before .before .before .before .before .before .before .before .before .before .before .before .before .before .before .before .before .before .loop .places)) (breaksIn (c .before .before .before .before .before .before .before .before .before .before .before .before .before .before .before .before .before .before .before .loop .k) (c .before .before .before .before .before .before .before .before .before .before .before .before .before .before .before .before .before .before .before .loop .broken) (c .before .before .before .before .before .before .before .before .before .before .before .before .before .before .before .before .before .before .before .loop .held)) (c .before .before .before .before .before .before .before .before .before .before .before .before .before .before .before .before .before .before .before .loop .inv .2) (c .before .before .before .before .before .before .before .before .before .before .before .before .before .before .before .before .before .before .loop-test .taken) (c .before .before .before .before .before .before .before .before .before .before .before .before .before .before .before .before .before .instr-at .result .code) (c .before .before .before .before .before .before .before .before .before .before .before .before .before .before .before .before .before .instr-at .result .a) (Codes.leads-here (c .before .before .before .before .before .before .before .before .before .before .before .before .before .before .before .before .before .before .before .before .before .before .before .args .t .now) (c .before .before .before .before .before .before .before .before .before .before .before .before .before .before .before .before .before .before .before .before .before .before .before .args .x .chunk) (c .before .before .before .before .before .before .before .before .before .before .before .before .before .before .before .before .before .before .before .before .before .before .before .args .x .first) (c .before .before .before .before .before .before .before .before .before .before .before .before .before .before .before .before .before .before .before .before .before .before .before .args .x .count) (c .before .before .before .before .before .before .before .before .before .before .before .before .before .before .before .before .before .before .before .loop .ip) (c .before .before .before .before .before .before .before .before .before .before .before .before .before .before .before .before .before .before .before .before .before .before .before .pre .1 .0 .placed .of .first) (c .before .before .before .before .before .before .before .before .before .before .before .before .before .before .before .before .before .before .before .before .before .before .before .pre .1 .0 .placed .of .count) (c .before .before .before .before .before .before .before .before .before .before .before .before .before .before .before .before .before .instr-at .result) (c .before .before .before .before .before .before .before .before .before .before .before .before .before .before .before .before .before .instr-at .ensures)) (onwardIn
-    (c .before .before .before .before .before .before .before .before .block-at .result) (c .before .before .before .before .before .before .before .before .block-at .last .1 .1 .1 .0) (c .before .before .before .before .before .before .before .before .block-at .last .1 .1 .1 .1 .0) (c .before .before .before .before .before .before .before .before .block-at .last .1 .1 .1 .1 .1 .0)
-    (c .before .before .before .before .before .before .before .before .block-at .last .1 .1 .1 .1 .1 .1 .0)) _ _ (c .before .before .before .before .before .before .before .before .block-at .ensures .2) (c .enum-told5 .given .1), c .before .before .before .before .before .before .before .before .block-at .ensures .3 .2)
+interp-region-returns-3 t c = (
+  c .before .before .before .before .before .before .before .before .block-at .ensures .0,
+  c .before .before .before .before .before .before .before .before .block-at .ensures .1,
+  Cycle.walking-stopped (c .before .before .before .before .before .before .before .before .before .before .before .before .before .before .before .before .before .before .before .before .before .before .before .args .t .now) (c .before .before .before .before .before .before .before .before .before .before .before .before .before .before .before .before .before .before .before .before .before .before .before .args .heights .now) (c .before .before .before .before .before .before .before .before .before .before .before .before .before .before .before .before .before .before .before .before .before .before .before .args .blinds .now) (c .before .before .before .before .before .before .before .before .before .before .before .before .before .before .before .before .before .before .before .before .before .before .before .args .x) (c .before .before .before .before .before .before .before .before .before .before .before .before .before .before .before .before .before .before .before .before .before .before .before .args .start) (c .before .before .before .before .before .before .before .before .before .before .before .before .before .before .before .before .before .before .before .before .before .before .before .args .end) (c .before .before .before .before .before .before .before .before .before .before .before .before .before .before .before .before .before .before .before .before .before .before .before .args .floor) (at (c .before .before .before .before .before .before .before .before .before .before .before .before .before .before .before .before .before .before .before .before .before .before .before .args .height) (c .before .before .before .before .before .before .before .before .before .before .before .before .before .before .before .before .before .before .before .before .before .before .before .args .slots .now) (c .before .before .before .before .before .before .before .before .before .before .before .before .before .before .before .before .before .before .before .before .before .before .before .args .places .now)) (breaksIn (c .before .before .before .before .before .before .before .before .before .before .before .before .before .before .before .before .before .before .before .before .before .before .before .args .b) (c .before .before .before .before .before .before .before .before .before .before .before .before .before .before .before .before .before .before .before .before .before .before .before .args .broken .now) (c .before .before .before .before .before .before .before .before .before .before .before .before .before .before .before .before .before .before .before .before .before .before .before .args .held .now)) (c .before .before .before .before .before .before .before .before .before .before .before .before .before .before .before .before .before .before .before .loop .heights)
+      (c .before .before .before .before .before .before .before .before .before .before .before .before .before .before .before .before .before .before .before .loop .blinds) (c .before .before .before .before .before .before .before .before .before .before .before .before .before .before .before .before .before .before .before .loop .ip) (at (c .before .before .before .before .before .before .before .before .before .before .before .before .before .before .before .before .before .before .before .loop .h) (c .before .before .before .before .before .before .before .before .before .before .before .before .before .before .before .before .before .before .before .loop .slots) (c .before .before .before .before .before .before .before .before .before .before .before .before .before .before .before .before .before .before .before .loop .places)) (breaksIn (c .before .before .before .before .before .before .before .before .before .before .before .before .before .before .before .before .before .before .before .loop .k) (c .before .before .before .before .before .before .before .before .before .before .before .before .before .before .before .before .before .before .before .loop .broken) (c .before .before .before .before .before .before .before .before .before .before .before .before .before .before .before .before .before .before .before .loop .held)) (c .before .before .before .before .before .before .before .before .before .before .before .before .before .before .before .before .before .before .before .loop .inv .2) (c .before .before .before .before .before .before .before .before .before .before .before .before .before .before .before .before .before .before .loop-test .taken) (c .before .before .before .before .before .before .before .before .before .before .before .before .before .before .before .before .before .instr-at .result .code) (c .before .before .before .before .before .before .before .before .before .before .before .before .before .before .before .before .before .instr-at .result .a) (Codes.leads-here (c .before .before .before .before .before .before .before .before .before .before .before .before .before .before .before .before .before .before .before .before .before .before .before .args .t .now) (c .before .before .before .before .before .before .before .before .before .before .before .before .before .before .before .before .before .before .before .before .before .before .before .args .x .chunk) (c .before .before .before .before .before .before .before .before .before .before .before .before .before .before .before .before .before .before .before .before .before .before .before .args .x .first) (c .before .before .before .before .before .before .before .before .before .before .before .before .before .before .before .before .before .before .before .before .before .before .before .args .x .count) (c .before .before .before .before .before .before .before .before .before .before .before .before .before .before .before .before .before .before .before .loop .ip) (c .before .before .before .before .before .before .before .before .before .before .before .before .before .before .before .before .before .before .before .before .before .before .before .pre .1 .0 .placed .of .first) (c .before .before .before .before .before .before .before .before .before .before .before .before .before .before .before .before .before .before .before .before .before .before .before .pre .1 .0 .placed .of .count) (c .before .before .before .before .before .before .before .before .before .before .before .before .before .before .before .before .before .instr-at .result) (c .before .before .before .before .before .before .before .before .before .before .before .before .before .before .before .before .before .instr-at .ensures)) (onwardIn
+      (c .before .before .before .before .before .before .before .before .block-at .result) (c .before .before .before .before .before .before .before .before .block-at .last .1 .1 .1 .0) (c .before .before .before .before .before .before .before .before .block-at .last .1 .1 .1 .1 .0) (c .before .before .before .before .before .before .before .before .block-at .last .1 .1 .1 .1 .1 .0)
+      (c .before .before .before .before .before .before .before .before .block-at .last .1 .1 .1 .1 .1 .1 .0)) _ _ (c .before .before .before .before .before .before .before .before .block-at .ensures .2) (c .enum-told5 .given .1),
+  c .before .before .before .before .before .before .before .before .block-at .ensures .3 .2,
+)
 
 -- src/lib.rt:32:1
 interp-region-same-length-7 : (t : ℕ) → interp-region-lts.Need-same-length-7 (
@@ -1010,9 +1145,13 @@ interp-region-returns-4 : (t : ℕ) → interp-region-lts.Need-returns-4 (
   block-at-below t,
   block-at.Post,
 ) (interp-region-at t) interp-region.Post interp-region-Inv-loop interp-region-μ-loop
-interp-region-returns-4 t c =
-    (c .before .loop .inv .0, c .before .loop .inv .1, Cycle.walking-end (c .before .before .before .before .before .args .t .now) (c .before .before .before .before .before .args .heights .now) (c .before .before .before .before .before .args .blinds .now) (c .before .before .before .before .before .args .x) (c .before .before .before .before .before .args .start) (c .before .before .before .before .before .args .end) (c .before .before .before .before .before .args .floor) (at (c .before .before .before .before .before .args .height) (c .before .before .before .before .before .args .slots .now) (c .before .before .before .before .before .args .places .now)) (breaksIn (c .before .before .before .before .before .args .b) (c .before .before .before .before .before .args .broken .now) (c .before .before .before .before .before .args .held .now)) (c .before .loop .heights) (c .before .loop .blinds) (c .before .loop .ip)
-    (at (c .before .loop .h) (c .before .loop .slots) (c .before .loop .places)) (breaksIn (c .before .loop .k) (c .before .loop .broken) (c .before .loop .held)) (c .before .loop .inv .2) (omega (arith, c .loop-test .left)), ((c .before .loop .inv .2) .ready .height-low, (c .before .loop .inv .2) .ready .breaks-low))
+interp-region-returns-4 t c = (
+  c .before .loop .inv .0,
+  c .before .loop .inv .1,
+  Cycle.walking-end (c .before .before .before .before .before .args .t .now) (c .before .before .before .before .before .args .heights .now) (c .before .before .before .before .before .args .blinds .now) (c .before .before .before .before .before .args .x) (c .before .before .before .before .before .args .start) (c .before .before .before .before .before .args .end) (c .before .before .before .before .before .args .floor) (at (c .before .before .before .before .before .args .height) (c .before .before .before .before .before .args .slots .now) (c .before .before .before .before .before .args .places .now)) (breaksIn (c .before .before .before .before .before .args .b) (c .before .before .before .before .before .args .broken .now) (c .before .before .before .before .before .args .held .now)) (c .before .loop .heights) (c .before .loop .blinds) (c .before .loop .ip)
+      (at (c .before .loop .h) (c .before .loop .slots) (c .before .loop .places)) (breaksIn (c .before .loop .k) (c .before .loop .broken) (c .before .loop .held)) (c .before .loop .inv .2) (omega (arith, c .loop-test .left)),
+  ((c .before .loop .inv .2) .ready .height-low, (c .before .loop .inv .2) .ready .breaks-low),
+)
 
 -- src/lib.rt:598:16
 last-pass-add-body : (t : ℕ) → last-pass-lts.Need-add-body (
@@ -1078,11 +1217,27 @@ last-pass-interp-region-requires : (t : ℕ) → last-pass-lts.Need-interp-regio
   last-end-reads.Asked,
   last-end-reads.Learnt,
 ) (last-pass-at t) last-pass.Post
-last-pass-interp-region-requires t c κs =
-    (omega (arith, c .before .before .before .before .before .before .before .before .before .before .before .before .before .before .before .before .before .pre .0, c .before .before .before .before .before .before .before .before .before .before .before .before .before .before .before .before .before .pre .1 .1 .1 .0), (record { placed = c .before .before .before .before .before .before .before .before .before .before .before .before .before .before .before .before .before .pre .1 .0; from = c .before .before .before .before .before .before .before .before .before .before .before .before .before .before .before .before .before .args .ip + 1; arm = Cycle.loop-arm-in (c .before .before .before .before .before .before .before .before .before .before .before .before .before .before .before .before .before .args .t .now) (c .before .before .before .before .before .before .before .before .before .before .before .before .before .before .before .before .before .args .x) (c .before .before .before .before .before .before .before .before .before .before .before .before .before .before .before .before .before .args .ip) (c .before .before .before .before .before .before .before .before .before .before .before .before .before .before .before .before .before .args .exit)
-    (c .before .before .before .before .before .before .before .before .before .before .before .before .before .before .before .before .before .pre .1 .0 .of .first) (c .before .before .before .before .before .before .before .before .before .before .before .before .before .before .before .before .before .pre .1 .0 .of .count) (omega (arith, c .before .before .before .before .before .before .before .before .before .before .before .before .before .before .before .before .before .pre .1 .1 .1 .0, c .before .before .before .before .before .before .before .before .before .before .before .before .before .before .before .before .before .pre .1 .1 .1 .1)) (c .before .before .before .before .before .before .before .before .before .before .before .before .before .before .before .before .before .pre .1 .1 .1 .4); after = omega arith; before = omega
-    (arith, c .before .before .before .before .before .before .before .before .before .before .before .before .before .before .before .before .before .pre .1 .1 .1 .0); floor-low = c .before .before .before .before .before .before .before .before .before .before .before .before .before .before .before .before .before .pre .1 .1 .1 .2; height-low = c .before .before .before .before .before .before .before .before .before .before .before .before .before .before .before .before .before .pre .1 .1 .1 .3; breaks-low = omega arith }, (c .before .before .before .before .before .before .copy .ensures .0,
-    c .before .before .before .before .before .before .before .before .before .before .before .before .before .before .before .before .before .pre .1 .1 .0 .1)))
+last-pass-interp-region-requires t c κs = (
+  omega (arith, c .before .before .before .before .before .before .before .before .before .before .before .before .before .before .before .before .before .pre .0, c .before .before .before .before .before .before .before .before .before .before .before .before .before .before .before .before .before .pre .1 .1 .1 .0),
+  (
+    record {
+      placed = c .before .before .before .before .before .before .before .before .before .before .before .before .before .before .before .before .before .pre .1 .0;
+      from = c .before .before .before .before .before .before .before .before .before .before .before .before .before .before .before .before .before .args .ip + 1;
+      arm = Cycle.loop-arm-in (c .before .before .before .before .before .before .before .before .before .before .before .before .before .before .before .before .before .args .t .now) (c .before .before .before .before .before .before .before .before .before .before .before .before .before .before .before .before .before .args .x) (c .before .before .before .before .before .before .before .before .before .before .before .before .before .before .before .before .before .args .ip) (c .before .before .before .before .before .before .before .before .before .before .before .before .before .before .before .before .before .args .exit)
+          (c .before .before .before .before .before .before .before .before .before .before .before .before .before .before .before .before .before .pre .1 .0 .of .first) (c .before .before .before .before .before .before .before .before .before .before .before .before .before .before .before .before .before .pre .1 .0 .of .count) (omega (arith, c .before .before .before .before .before .before .before .before .before .before .before .before .before .before .before .before .before .pre .1 .1 .1 .0, c .before .before .before .before .before .before .before .before .before .before .before .before .before .before .before .before .before .pre .1 .1 .1 .1)) (c .before .before .before .before .before .before .before .before .before .before .before .before .before .before .before .before .before .pre .1 .1 .1 .4);
+      after = omega arith;
+      before = omega
+          (arith, c .before .before .before .before .before .before .before .before .before .before .before .before .before .before .before .before .before .pre .1 .1 .1 .0);
+      floor-low = c .before .before .before .before .before .before .before .before .before .before .before .before .before .before .before .before .before .pre .1 .1 .1 .2;
+      height-low = c .before .before .before .before .before .before .before .before .before .before .before .before .before .before .before .before .before .pre .1 .1 .1 .3;
+      breaks-low = omega arith;
+    },
+    (
+      c .before .before .before .before .before .before .copy .ensures .0,
+      c .before .before .before .before .before .before .before .before .before .before .before .before .before .before .before .before .before .pre .1 .1 .0 .1,
+    ),
+  ),
+)
 
 -- src/lib.rt:621:5
 last-pass-last-end-requires : (t : ℕ) → last-pass-lts.Need-last-end-requires (
@@ -1095,9 +1250,15 @@ last-pass-last-end-requires : (t : ℕ) → last-pass-lts.Need-last-end-requires
   last-end-reads.Asked,
   last-end-reads.Learnt,
 ) (last-pass-at t) last-pass.Post
-last-pass-last-end-requires t c κs =
-    (c .before .before .before .before .before .before .before .before .before .before .interp-region .ensures .0, c .before .before .before .before .before .before .before .before .before .before .before .before .before .before .before .before .before .before .before .before .before .before .invalidate-written-locals .ensures .0, c .before .before .before .before .before .before .before .before .before .before .interp-region .ensures .1, c .before .before .before .before .before .before .before .before .before .before .interp-region .ensures .3, c .before .before .before .before .before .before .before .before .before .before .before .before .before .before .before .before .before .before .before .before .before .before .before .before .before .before .before .before .pre .1 .1 .1 .3, omega
-    (arith, c .before .before .before .before .before .before .before .before .before .before .before .before .before .before .before .before .before .before .before .before .before .before .before .before .before .before .before .before .pre .1 .0 .of .locals, locals-low (c .before .before .before .before .before .before .before .before .before .before .before .before .before .before .before .before .before .before .before .before .before .before .before .before .before .before .before .before .args .t .now) (c .before .before .before .before .before .before .before .before .before .before .before .before .before .before .before .before .before .before .before .before .before .before .before .before .before .before .before .before .args .x .chunk)))
+last-pass-last-end-requires t c κs = (
+  c .before .before .before .before .before .before .before .before .before .before .interp-region .ensures .0,
+  c .before .before .before .before .before .before .before .before .before .before .before .before .before .before .before .before .before .before .before .before .before .before .invalidate-written-locals .ensures .0,
+  c .before .before .before .before .before .before .before .before .before .before .interp-region .ensures .1,
+  c .before .before .before .before .before .before .before .before .before .before .interp-region .ensures .3,
+  c .before .before .before .before .before .before .before .before .before .before .before .before .before .before .before .before .before .before .before .before .before .before .before .before .before .before .before .before .pre .1 .1 .1 .3,
+  omega
+      (arith, c .before .before .before .before .before .before .before .before .before .before .before .before .before .before .before .before .before .before .before .before .before .before .before .before .before .before .before .before .pre .1 .0 .of .locals, locals-low (c .before .before .before .before .before .before .before .before .before .before .before .before .before .before .before .before .before .before .before .before .before .before .before .before .before .before .before .before .args .t .now) (c .before .before .before .before .before .before .before .before .before .before .before .before .before .before .before .before .before .before .before .before .before .before .before .before .before .before .before .before .args .x .chunk)),
+)
 
 -- src/lib.rt:576:1
 last-pass-same-length : (t : ℕ) → last-pass-lts.Need-same-length (
@@ -1136,14 +1297,18 @@ last-pass-returns : (t : ℕ) → last-pass-lts.Need-returns (
   last-end-reads.Asked,
   last-end-reads.Learnt,
 ) (last-pass-at t) last-pass.Post
-last-pass-returns t c =
-    (c .last-end .ensures .0, c .before .before .before .before .before .before .before .before .before .before .before .interp-region .ensures .1, c .before .before .before .before .before .before .before .before .before .before .before .before .before .before .before .before .before .before .before .before .before .before .before .invalidate-written-locals .ensures .0, Cycle.last-made (c .before .before .before .before .before .before .before .before .before .before .before .before .before .before .before .before .before .before .before .before .before .before .before .before .before .before .before .before .before .args .t .now) (c .before .before .before .before .before .before .before .before .before .before .before .before .before .before .before .before .before .before .before .before .before .before .before .before .before .before .before .before .before .args .x) (c .before .before .before .before .before .before .before .before .before .before .before .before .before .before .before .before .before .before .before .before .before .before .before .before .before .before .before .before .before .args .ip) (c .before .before .before .before .before .before .before .before .before .before .before .before .before .before .before .before .before .before .before .before .before .before .before .before .before .before .before .before .before .args .exit) (c .before .before .before .before .before .before .before .before .before .before .before .before .before .before .before .before .before .before .before .before .before .before .before .before .before .before .before .before .before .args .floor) (at (c .before .before .before .before .before .before .before .before .before .before .before .before .before .before .before .before .before .before .before .before .before .before .before .before .before .before .before .before .before .args .height)
-    (c .before .before .before .before .before .before .before .before .before .before .before .before .before .before .before .before .before .before .before .before .before .before .before .before .before .before .before .before .before .args .head .now) (c .before .before .before .before .before .before .before .before .before .before .before .before .before .before .before .before .before .before .before .before .before .before .before .before .before .before .before .before .before .args .texts .now)) (at (c .before .before .before .before .before .before .before .before .before .before .before .before .before .before .before .before .before .before .before .before .before .before .before .before .before .before .before .before .before .args .height) (c .before .before .before .before .before .before .before .before .before .before .before .before .before .before .before .before .before .before .before .before .before .before .before .invalidate-written-locals .last .1 .0) (c .before .before .before .before .before .before .before .before .before .before .before .before .before .before .before .before .before .before .before .before .before .before .before .invalidate-written-locals .last .1 .1 .0))
-    (c .before .before .before .before .before .before .before .before .before .before .before .before .before .before .before .before .before .before .before .before .before .before .before .invalidate-written-locals .ensures .1 (c .before .before .before .before .before .before .before .before .before .before .before .before .before .before .before .before .before .before .before .before .before .before .before .before .before .before .before .before .before .args .height) (c .before .before .before .before .before .before .before .before .before .before .before .before .before .before .before .before .before .before .before .before .before .before .before .before .before .before .before .before .before .pre .1 .1 .1 .3)) (breaksIn (record { pending = Nothing; height = 0 }) (c .before .before .before .before .before .before .before .before .before .before .before .before .before .before .before .before .before .before .before .before .before .before .before .before .before .before .before .before .before .args .broken .now)
-    (c .before .before .before .before .before .before .before .before .before .before .before .before .before .before .before .before .before .before .before .before .before .before .before .before .before .before .before .before .before .args .held .now)) refl (outcomeIn (c .before .before .before .before .before .before .before .before .before .before .before .interp-region .result) (c .before .before .before .before .before .before .before .before .before .before .before .interp-region .last .1 .1 .1 .0) (c .before .before .before .before .before .before .before .before .before .before .before .interp-region .last .1 .1 .1 .1 .0) (c .before .before .before .before .before .before .before .before .before .before .before .interp-region .last .1 .1 .1 .1 .1 .0) (c .before .before .before .before .before .before .before .before .before .before .before .interp-region .last .1 .1 .1 .1 .1 .1 .0)) _ _ (c .before .before .before .before .before .before .before .before .before .before .before .interp-region .ensures .2 ∙ ap (λ (z : AnyState). full (Visits.chunkIn (c .before .before .before .before .before .before .before .before .before .before .before .before .before .before .before .before .before .before .before .before .before .before .before .before .before .before .before .before .before .args .t .now) (c .before .before .before .before .before .before .before .before .before .before .before .before .before .before .before .before .before .before .before .before .before .before .before .before .before .before .before .before .before .args .x)) (c .before .before .before .before .before .before .before .before .before .before .before .before .before .before .before .before .before .before .before .before .before .before .before .before .before .before .before .before .before .args .ip + 1) (c .before .before .before .before .before .before .before .before .before .before .before .before .before .before .before .before .before .before .before .before .before .before .before .before .before .before .before .before .before .args .exit - 1) (c .before .before .before .before .before .before .before .before .before .before .before .before .before .before .before .before .before .before .before .before .before .before .before .before .before .before .before .before .before .args .floor) z
-    (Outcomes.breaksOf (c .before .before .before .before .before .before .before .before .before .before .before .before .before .before .before .before .before .before .before .before .before .before .before .before .before .before .before .before .before .args .x .locals) (breaksIn (record { pending = Nothing; height = 0 }) (c .before .before .before .before .before .before .before .before .before .before .before .before .before .before .before .before .before .before .before .before .before .before .before .before .before .before .before .before .before .args .broken .now) (c .before .before .before .before .before .before .before .before .before .before .before .before .before .before .before .before .before .before .before .before .before .before .before .before .before .before .before .before .before .args .held .now))) (sheetsOf
-    (c .before .before .before .before .before .before .before .before .before .before .before .before .before .before .before .before .before .before .before .before .before .before .before .before .before .before .before .before .before .args .heights .now) (c .before .before .before .before .before .before .before .before .before .before .before .before .before .before .before .before .before .before .before .before .before .before .before .before .before .before .before .before .before .args .blinds .now))) (c .before .before .before .before .before .before .before .before .before .before .before .before .before .before .before .before .before .before .copy .ensures .1)) (leftIn (c .last-end .result) (c .last-end .last .1 .0) (c .last-end .last .1 .1 .0)) (c .last-end .ensures .1 _),
-    c .last-end .ensures .2)
+last-pass-returns t c = (
+  c .last-end .ensures .0,
+  c .before .before .before .before .before .before .before .before .before .before .before .interp-region .ensures .1,
+  c .before .before .before .before .before .before .before .before .before .before .before .before .before .before .before .before .before .before .before .before .before .before .before .invalidate-written-locals .ensures .0,
+  Cycle.last-made (c .before .before .before .before .before .before .before .before .before .before .before .before .before .before .before .before .before .before .before .before .before .before .before .before .before .before .before .before .before .args .t .now) (c .before .before .before .before .before .before .before .before .before .before .before .before .before .before .before .before .before .before .before .before .before .before .before .before .before .before .before .before .before .args .x) (c .before .before .before .before .before .before .before .before .before .before .before .before .before .before .before .before .before .before .before .before .before .before .before .before .before .before .before .before .before .args .ip) (c .before .before .before .before .before .before .before .before .before .before .before .before .before .before .before .before .before .before .before .before .before .before .before .before .before .before .before .before .before .args .exit) (c .before .before .before .before .before .before .before .before .before .before .before .before .before .before .before .before .before .before .before .before .before .before .before .before .before .before .before .before .before .args .floor) (at (c .before .before .before .before .before .before .before .before .before .before .before .before .before .before .before .before .before .before .before .before .before .before .before .before .before .before .before .before .before .args .height)
+      (c .before .before .before .before .before .before .before .before .before .before .before .before .before .before .before .before .before .before .before .before .before .before .before .before .before .before .before .before .before .args .head .now) (c .before .before .before .before .before .before .before .before .before .before .before .before .before .before .before .before .before .before .before .before .before .before .before .before .before .before .before .before .before .args .texts .now)) (at (c .before .before .before .before .before .before .before .before .before .before .before .before .before .before .before .before .before .before .before .before .before .before .before .before .before .before .before .before .before .args .height) (c .before .before .before .before .before .before .before .before .before .before .before .before .before .before .before .before .before .before .before .before .before .before .before .invalidate-written-locals .last .1 .0) (c .before .before .before .before .before .before .before .before .before .before .before .before .before .before .before .before .before .before .before .before .before .before .before .invalidate-written-locals .last .1 .1 .0))
+      (c .before .before .before .before .before .before .before .before .before .before .before .before .before .before .before .before .before .before .before .before .before .before .before .invalidate-written-locals .ensures .1 (c .before .before .before .before .before .before .before .before .before .before .before .before .before .before .before .before .before .before .before .before .before .before .before .before .before .before .before .before .before .args .height) (c .before .before .before .before .before .before .before .before .before .before .before .before .before .before .before .before .before .before .before .before .before .before .before .before .before .before .before .before .before .pre .1 .1 .1 .3)) (breaksIn (record { pending = Nothing; height = 0 }) (c .before .before .before .before .before .before .before .before .before .before .before .before .before .before .before .before .before .before .before .before .before .before .before .before .before .before .before .before .before .args .broken .now)
+      (c .before .before .before .before .before .before .before .before .before .before .before .before .before .before .before .before .before .before .before .before .before .before .before .before .before .before .before .before .before .args .held .now)) refl (outcomeIn (c .before .before .before .before .before .before .before .before .before .before .before .interp-region .result) (c .before .before .before .before .before .before .before .before .before .before .before .interp-region .last .1 .1 .1 .0) (c .before .before .before .before .before .before .before .before .before .before .before .interp-region .last .1 .1 .1 .1 .0) (c .before .before .before .before .before .before .before .before .before .before .before .interp-region .last .1 .1 .1 .1 .1 .0) (c .before .before .before .before .before .before .before .before .before .before .before .interp-region .last .1 .1 .1 .1 .1 .1 .0)) _ _ (c .before .before .before .before .before .before .before .before .before .before .before .interp-region .ensures .2 ∙ ap (λ (z : AnyState). full (Visits.chunkIn (c .before .before .before .before .before .before .before .before .before .before .before .before .before .before .before .before .before .before .before .before .before .before .before .before .before .before .before .before .before .args .t .now) (c .before .before .before .before .before .before .before .before .before .before .before .before .before .before .before .before .before .before .before .before .before .before .before .before .before .before .before .before .before .args .x)) (c .before .before .before .before .before .before .before .before .before .before .before .before .before .before .before .before .before .before .before .before .before .before .before .before .before .before .before .before .before .args .ip + 1) (c .before .before .before .before .before .before .before .before .before .before .before .before .before .before .before .before .before .before .before .before .before .before .before .before .before .before .before .before .before .args .exit - 1) (c .before .before .before .before .before .before .before .before .before .before .before .before .before .before .before .before .before .before .before .before .before .before .before .before .before .before .before .before .before .args .floor) z
+      (Outcomes.breaksOf (c .before .before .before .before .before .before .before .before .before .before .before .before .before .before .before .before .before .before .before .before .before .before .before .before .before .before .before .before .before .args .x .locals) (breaksIn (record { pending = Nothing; height = 0 }) (c .before .before .before .before .before .before .before .before .before .before .before .before .before .before .before .before .before .before .before .before .before .before .before .before .before .before .before .before .before .args .broken .now) (c .before .before .before .before .before .before .before .before .before .before .before .before .before .before .before .before .before .before .before .before .before .before .before .before .before .before .before .before .before .args .held .now))) (sheetsOf
+      (c .before .before .before .before .before .before .before .before .before .before .before .before .before .before .before .before .before .before .before .before .before .before .before .before .before .before .before .before .before .args .heights .now) (c .before .before .before .before .before .before .before .before .before .before .before .before .before .before .before .before .before .before .before .before .before .before .before .before .before .before .before .before .before .args .blinds .now))) (c .before .before .before .before .before .before .before .before .before .before .before .before .before .before .before .before .before .before .copy .ensures .1)) (leftIn (c .last-end .result) (c .last-end .last .1 .0) (c .last-end .last .1 .1 .0)) (c .last-end .ensures .1 _),
+  c .last-end .ensures .2,
+)
 
 -- src/lib.rt:455:34
 loop-at-add-mark-height : (t : ℕ) → loop-at-lts.Need-add-mark-height (
@@ -1177,9 +1342,25 @@ loop-at-passes-at-requires : (t : ℕ) → loop-at-lts.Need-passes-at-requires (
   onward-after-reads.Learnt,
 ) (loop-at-at t) loop-at.Post
 loop-at-passes-at-requires t c κs =
-    let q = Cycle.loop-in (c .before .before .before .before .before .before .before .before .before .before .before .before .before .args .t .now) (c .before .before .before .before .before .before .before .before .before .before .before .before .before .args .heights .now) (c .before .before .before .before .before .before .before .before .before .before .before .before .before .args .blinds .now) (c .before .before .before .before .before .before .before .before .before .before .before .before .before .args .x) (c .before .before .before .before .before .before .before .before .before .before .before .before .before .args .target) (c .before .before .before .before .before .before .before .before .before .before .before .before .before .args .ip) (c .before .before .before .before .before .before .before .before .before .before .before .before .before .args .end) (c .before .before .before .before .before .before .before .before .before .before .before .before .before .args .floor) _ _ (c .before .before .before .before .before .before .before .before .before .before .before .before .before .pre .1 .0) (c .before .before .before .before .before .before .before .before .before .before .before .before .before .pre .1 .1 .1 .0) (c .before .before .before .before .before .before .before .before .before .before .before .before .before .pre .1 .1 .1 .1) in (omega (arith, c .before .before .before .before .before .before .before .before .before .before .before .before .before .pre .0, q .0, q .1),
-    (Cycle.placed-by (c .before .before .before .before .before .before .before .before .before .before .before .before .before .args .t .now) (c .before .before .before .before .before .before .before .before .before .before .before .before .before .args .heights .now) (c .before .before .before .before .before .before .before .before .before .before .before .before .before .args .blinds .now) _ (c .before .before .before .before .before .before .before .before .before .before .before .before .before .args .blinds .now) (c .before .before .before .before .before .before .before .before .before .before .before .before .before .args .x) (c .before .before .before .before .before .before .before .before .mark-height .kept .0) refl (c .before .before .before .before .before .before .before .before .before .before .before .before .before .pre .1 .0 .placed), ((c .before .before .before .before .before .before .before .before .before .before .before .before .before .pre .1 .1 .0 .0, search needs), (q .0, omega (arith, q .1,
-    Cycle.arm-in (c .before .before .before .before .before .before .before .before .before .before .before .before .before .args .t .now) (c .before .before .before .before .before .before .before .before .before .before .before .before .before .args .x) _ (c .before .before .before .before .before .before .before .before .before .before .before .before .before .args .end) (c .before .before .before .before .before .before .before .before .before .before .before .before .before .pre .1 .0 .placed .of .count) (c .before .before .before .before .before .before .before .before .before .before .before .before .before .pre .1 .0 .placed .of .first) (c .before .before .before .before .before .before .before .before .before .before .before .before .before .pre .1 .0 .placed .nested) ((c .before .before .before .before .before .before .before .before .before .before .before .before .before .pre .1 .0) .arm)), c .before .before .before .before .before .before .before .before .before .before .before .before .before .pre .1 .0 .height-low, (c .before .before .before .before .before .before .before .before .before .before .before .before .before .pre .1 .1 .1 .1)))))
+    let q = Cycle.loop-in (c .before .before .before .before .before .before .before .before .before .before .before .before .before .args .t .now) (c .before .before .before .before .before .before .before .before .before .before .before .before .before .args .heights .now) (c .before .before .before .before .before .before .before .before .before .before .before .before .before .args .blinds .now) (c .before .before .before .before .before .before .before .before .before .before .before .before .before .args .x) (c .before .before .before .before .before .before .before .before .before .before .before .before .before .args .target) (c .before .before .before .before .before .before .before .before .before .before .before .before .before .args .ip) (c .before .before .before .before .before .before .before .before .before .before .before .before .before .args .end) (c .before .before .before .before .before .before .before .before .before .before .before .before .before .args .floor) _ _ (c .before .before .before .before .before .before .before .before .before .before .before .before .before .pre .1 .0) (c .before .before .before .before .before .before .before .before .before .before .before .before .before .pre .1 .1 .1 .0) (c .before .before .before .before .before .before .before .before .before .before .before .before .before .pre .1 .1 .1 .1) in (
+      omega (arith, c .before .before .before .before .before .before .before .before .before .before .before .before .before .pre .0, q .0, q .1),
+      (
+        Cycle.placed-by (c .before .before .before .before .before .before .before .before .before .before .before .before .before .args .t .now) (c .before .before .before .before .before .before .before .before .before .before .before .before .before .args .heights .now) (c .before .before .before .before .before .before .before .before .before .before .before .before .before .args .blinds .now) _ (c .before .before .before .before .before .before .before .before .before .before .before .before .before .args .blinds .now) (c .before .before .before .before .before .before .before .before .before .before .before .before .before .args .x) (c .before .before .before .before .before .before .before .before .mark-height .kept .0) refl (c .before .before .before .before .before .before .before .before .before .before .before .before .before .pre .1 .0 .placed),
+        (
+          (c .before .before .before .before .before .before .before .before .before .before .before .before .before .pre .1 .1 .0 .0, search needs),
+          (
+            q .0,
+            omega (
+              arith,
+              q .1,
+              Cycle.arm-in (c .before .before .before .before .before .before .before .before .before .before .before .before .before .args .t .now) (c .before .before .before .before .before .before .before .before .before .before .before .before .before .args .x) _ (c .before .before .before .before .before .before .before .before .before .before .before .before .before .args .end) (c .before .before .before .before .before .before .before .before .before .before .before .before .before .pre .1 .0 .placed .of .count) (c .before .before .before .before .before .before .before .before .before .before .before .before .before .pre .1 .0 .placed .of .first) (c .before .before .before .before .before .before .before .before .before .before .before .before .before .pre .1 .0 .placed .nested) ((c .before .before .before .before .before .before .before .before .before .before .before .before .before .pre .1 .0) .arm),
+            ),
+            c .before .before .before .before .before .before .before .before .before .before .before .before .before .pre .1 .0 .height-low,
+            (c .before .before .before .before .before .before .before .before .before .before .before .before .before .pre .1 .1 .1 .1),
+          ),
+        ),
+      ),
+    )
 
 -- src/lib.rt:469:5
 loop-at-onward-after-requires : (t : ℕ) → loop-at-lts.Need-onward-after-requires (
@@ -1223,13 +1404,27 @@ loop-at-returns : (t : ℕ) → loop-at-lts.Need-returns (
   onward-after-reads.Asked,
   onward-after-reads.Learnt,
 ) (loop-at-at t) loop-at.Post
-loop-at-returns t c =
-    (c .before .before .before .before .before .passes-at .ensures .0, c .before .before .before .before .before .before .before .before .before .before .before .before .before .before .before .before .before .before .before .pre .1 .1 .0 .1, c .onward-after .ensures .3 (Visits.chunkIn (c .before .before .before .before .before .before .before .before .before .before .before .before .before .before .before .before .before .before .before .args .t .now) (c .before .before .before .before .before .before .before .before .before .before .before .before .before .before .before .before .before .before .before .args .x)) (c .before .before .before .before .before .before .before .before .before .before .before .before .before .before .before .before .before .before .before .args .x .locals) (c .before .before .before .before .before .before .before .before .before .before .before .before .before .before .before .before .before .before .before .args .end) (c .before .before .before .before .before .before .before .before .before .before .before .before .before .before .before .before .before .before .before .args .floor) (c .before .before .before .before .before .passes-at .last .1 .1 .1 .0)
-    (c .before .before .before .before .before .passes-at .last .1 .1 .1 .1 .0) (c .before .before .before .before .before .before .before .before .before .before .before .before .before .before .before .before .before .before .before .args .broken .now) (c .before .before .before .before .before .before .before .before .before .before .before .before .before .before .before .before .before .before .before .args .held .now) _ ∙ Cycle.loop-left (c .before .before .before .before .before .before .before .before .before .before .before .before .before .before .before .before .before .before .before .args .t .now) (c .before .before .before .before .before .before .before .before .before .before .before .before .before .before .before .before .before .before .before .args .x) (c .before .before .before .before .before .before .before .before .before .before .before .before .before .before .before .before .before .before .before .args .target) (c .before .before .before .before .before .before .before .before .before .before .before .before .before .before .before .before .before .before .before .args .ip) (c .before .before .before .before .before .before .before .before .before .before .before .before .before .before .before .before .before .before .before .args .end) (c .before .before .before .before .before .before .before .before .before .before .before .before .before .before .before .before .before .before .before .args .floor) (at (c .before .before .before .before .before .before .before .before .before .before .before .before .before .before .before .before .before .before .before .args .height) (c .before .before .before .before .before .before .before .before .before .before .before .before .before .before .before .before .before .before .before .args .slots .now) (c .before .before .before .before .before .before .before .before .before .before .before .before .before .before .before .before .before .before .before .args .places .now)) (breaksIn (c .before .before .before .before .before .before .before .before .before .before .before .before .before .before .before .before .before .before .before .args .b) (c .before .before .before .before .before .before .before .before .before .before .before .before .before .before .before .before .before .before .before .args .broken .now) (c .before .before .before .before .before .before .before .before .before .before .before .before .before .before .before .before .before .before .before .args .held .now)) (c .before .before .before .before .before .before .before .before .before .before .before .before .before .before .before .before .before .before .before .args .heights .now)
-    (c .before .before .before .before .before .before .before .before .before .before .before .before .before .before .before .before .before .before .before .args .blinds .now) _ (c .before .before .before .before .before .before .before .before .before .before .before .before .before .before .before .before .before .before .before .pre .1 .0 .placed .of .first) (c .before .before .before .before .before .before .before .before .before .before .before .before .before .before .before .before .before .before .before .pre .1 .1 .1 .1) (c .before .before .before .before .before .before .before .before .before .before .before .before .before .before .mark-height .ensures) (leftIn (c .before .before .before .before .before .passes-at .result) (c .before .before .before .before .before .passes-at .last .1 .1 .1 .0)
-    (c .before .before .before .before .before .passes-at .last .1 .1 .1 .1 .0)) _ (c .before .before .before .before .before .passes-at .ensures .2), (let q = Cycle.loop-in (c .before .before .before .before .before .before .before .before .before .before .before .before .before .before .before .before .before .before .before .args .t .now) (c .before .before .before .before .before .before .before .before .before .before .before .before .before .before .before .before .before .before .before .args .heights .now) (c .before .before .before .before .before .before .before .before .before .before .before .before .before .before .before .before .before .before .before .args .blinds .now) (c .before .before .before .before .before .before .before .before .before .before .before .before .before .before .before .before .before .before .before .args .x) (c .before .before .before .before .before .before .before .before .before .before .before .before .before .before .before .before .before .before .before .args .target) (c .before .before .before .before .before .before .before .before .before .before .before .before .before .before .before .before .before .before .before .args .ip) (c .before .before .before .before .before .before .before .before .before .before .before .before .before .before .before .before .before .before .before .args .end) (c .before .before .before .before .before .before .before .before .before .before .before .before .before .before .before .before .before .before .before .args .floor) _ _ (c .before .before .before .before .before .before .before .before .before .before .before .before .before .before .before .before .before .before .before .pre .1 .0) (c .before .before .before .before .before .before .before .before .before .before .before .before .before .before .before .before .before .before .before .pre .1 .1 .1 .0)
-    (c .before .before .before .before .before .before .before .before .before .before .before .before .before .before .before .before .before .before .before .pre .1 .1 .1 .1) in (omega (arith, q .0, c .onward-after .ensures .0), omega (arith, q .1, c .onward-after .ensures .0), (omega (arith, c .onward-after .ensures .1,
-    c .before .before .before .before .before .passes-at .ensures .3), omega (arith, c .onward-after .ensures .2, c .before .before .before .before .before .before .before .before .before .before .before .before .before .before .before .before .before .before .before .pre .1 .0 .breaks-low)))))
+loop-at-returns t c = (
+  c .before .before .before .before .before .passes-at .ensures .0,
+  c .before .before .before .before .before .before .before .before .before .before .before .before .before .before .before .before .before .before .before .pre .1 .1 .0 .1,
+  c .onward-after .ensures .3 (Visits.chunkIn (c .before .before .before .before .before .before .before .before .before .before .before .before .before .before .before .before .before .before .before .args .t .now) (c .before .before .before .before .before .before .before .before .before .before .before .before .before .before .before .before .before .before .before .args .x)) (c .before .before .before .before .before .before .before .before .before .before .before .before .before .before .before .before .before .before .before .args .x .locals) (c .before .before .before .before .before .before .before .before .before .before .before .before .before .before .before .before .before .before .before .args .end) (c .before .before .before .before .before .before .before .before .before .before .before .before .before .before .before .before .before .before .before .args .floor) (c .before .before .before .before .before .passes-at .last .1 .1 .1 .0)
+      (c .before .before .before .before .before .passes-at .last .1 .1 .1 .1 .0) (c .before .before .before .before .before .before .before .before .before .before .before .before .before .before .before .before .before .before .before .args .broken .now) (c .before .before .before .before .before .before .before .before .before .before .before .before .before .before .before .before .before .before .before .args .held .now) _ ∙ Cycle.loop-left (c .before .before .before .before .before .before .before .before .before .before .before .before .before .before .before .before .before .before .before .args .t .now) (c .before .before .before .before .before .before .before .before .before .before .before .before .before .before .before .before .before .before .before .args .x) (c .before .before .before .before .before .before .before .before .before .before .before .before .before .before .before .before .before .before .before .args .target) (c .before .before .before .before .before .before .before .before .before .before .before .before .before .before .before .before .before .before .before .args .ip) (c .before .before .before .before .before .before .before .before .before .before .before .before .before .before .before .before .before .before .before .args .end) (c .before .before .before .before .before .before .before .before .before .before .before .before .before .before .before .before .before .before .before .args .floor) (at (c .before .before .before .before .before .before .before .before .before .before .before .before .before .before .before .before .before .before .before .args .height) (c .before .before .before .before .before .before .before .before .before .before .before .before .before .before .before .before .before .before .before .args .slots .now) (c .before .before .before .before .before .before .before .before .before .before .before .before .before .before .before .before .before .before .before .args .places .now)) (breaksIn (c .before .before .before .before .before .before .before .before .before .before .before .before .before .before .before .before .before .before .before .args .b) (c .before .before .before .before .before .before .before .before .before .before .before .before .before .before .before .before .before .before .before .args .broken .now) (c .before .before .before .before .before .before .before .before .before .before .before .before .before .before .before .before .before .before .before .args .held .now)) (c .before .before .before .before .before .before .before .before .before .before .before .before .before .before .before .before .before .before .before .args .heights .now)
+      (c .before .before .before .before .before .before .before .before .before .before .before .before .before .before .before .before .before .before .before .args .blinds .now) _ (c .before .before .before .before .before .before .before .before .before .before .before .before .before .before .before .before .before .before .before .pre .1 .0 .placed .of .first) (c .before .before .before .before .before .before .before .before .before .before .before .before .before .before .before .before .before .before .before .pre .1 .1 .1 .1) (c .before .before .before .before .before .before .before .before .before .before .before .before .before .before .mark-height .ensures) (leftIn (c .before .before .before .before .before .passes-at .result) (c .before .before .before .before .before .passes-at .last .1 .1 .1 .0)
+      (c .before .before .before .before .before .passes-at .last .1 .1 .1 .1 .0)) _ (c .before .before .before .before .before .passes-at .ensures .2),
+  (let q = Cycle.loop-in (c .before .before .before .before .before .before .before .before .before .before .before .before .before .before .before .before .before .before .before .args .t .now) (c .before .before .before .before .before .before .before .before .before .before .before .before .before .before .before .before .before .before .before .args .heights .now) (c .before .before .before .before .before .before .before .before .before .before .before .before .before .before .before .before .before .before .before .args .blinds .now) (c .before .before .before .before .before .before .before .before .before .before .before .before .before .before .before .before .before .before .before .args .x) (c .before .before .before .before .before .before .before .before .before .before .before .before .before .before .before .before .before .before .before .args .target) (c .before .before .before .before .before .before .before .before .before .before .before .before .before .before .before .before .before .before .before .args .ip) (c .before .before .before .before .before .before .before .before .before .before .before .before .before .before .before .before .before .before .before .args .end) (c .before .before .before .before .before .before .before .before .before .before .before .before .before .before .before .before .before .before .before .args .floor) _ _ (c .before .before .before .before .before .before .before .before .before .before .before .before .before .before .before .before .before .before .before .pre .1 .0) (c .before .before .before .before .before .before .before .before .before .before .before .before .before .before .before .before .before .before .before .pre .1 .1 .1 .0)
+      (c .before .before .before .before .before .before .before .before .before .before .before .before .before .before .before .before .before .before .before .pre .1 .1 .1 .1) in (
+        omega (arith, q .0, c .onward-after .ensures .0),
+        omega (arith, q .1, c .onward-after .ensures .0),
+        (
+          omega (
+            arith,
+            c .onward-after .ensures .1,
+            c .before .before .before .before .before .passes-at .ensures .3,
+          ),
+          omega (arith, c .onward-after .ensures .2, c .before .before .before .before .before .before .before .before .before .before .before .before .before .before .before .before .before .before .before .pre .1 .0 .breaks-low),
+        ),
+      )),
+)
 
 -- src/lib.rt:294:5
 one-arm-copy-requires : (t : ℕ) → one-arm-lts.Need-copy-requires (
@@ -1263,9 +1458,28 @@ one-arm-interp-region-requires : (t : ℕ) → one-arm-lts.Need-interp-region-re
   join-ends-reads.Learnt,
 ) (one-arm-at t) one-arm.Post
 one-arm-interp-region-requires t c κs =
-    let q = Cycle.one-arm-in (c .before .before .before .before .before .before .before .before .before .before .before .before .before .before .args .t .now) (c .before .before .before .before .before .before .before .before .before .before .before .before .before .before .args .heights .now) (c .before .before .before .before .before .before .before .before .before .before .before .before .before .before .args .blinds .now) (c .before .before .before .before .before .before .before .before .before .before .before .before .before .before .args .x) (c .before .before .before .before .before .before .before .before .before .before .before .before .before .before .args .target) (c .before .before .before .before .before .before .before .before .before .before .before .before .before .before .args .ip) (c .before .before .before .before .before .before .before .before .before .before .before .before .before .before .args .end) (c .before .before .before .before .before .before .before .before .before .before .before .before .before .before .args .floor) _ _ (c .before .before .before .before .before .before .before .before .before .before .before .before .before .before .pre .1 .0) (c .before .before .before .before .before .before .before .before .before .before .before .before .before .before .pre .1 .1 .1 .0) (c .before .before .before .before .before .before .before .before .before .before .before .before .before .before .pre .1 .1 .1 .1) (c .before .before .before .before .before .before .before .before .before .before .before .before .before .before .pre .1 .1 .1 .2) in (omega (arith, q .0, q .1,
-    c .before .before .before .before .before .before .before .before .before .before .before .before .before .before .pre .0), (record { placed = c .before .before .before .before .before .before .before .before .before .before .before .before .before .before .pre .1 .0 .placed; from = c .before .before .before .before .before .before .before .before .before .before .before .before .before .before .args .ip + 1; arm = q .2; after = omega arith; before = omega (arith, q .0); floor-low =
-    c .before .before .before .before .before .before .before .before .before .before .before .before .before .before .pre .1 .0 .floor-low; height-low = c .before .before .before .before .before .before .before .before .before .before .before .before .before .before .pre .1 .0 .height-low; breaks-low = c .before .before .before .before .before .before .before .before .before .before .before .before .before .before .pre .1 .0 .breaks-low }, c .before .before .before .before .before .before .before .before .before .before .before .before .before .before .pre .1 .1 .0))
+    let q = Cycle.one-arm-in (c .before .before .before .before .before .before .before .before .before .before .before .before .before .before .args .t .now) (c .before .before .before .before .before .before .before .before .before .before .before .before .before .before .args .heights .now) (c .before .before .before .before .before .before .before .before .before .before .before .before .before .before .args .blinds .now) (c .before .before .before .before .before .before .before .before .before .before .before .before .before .before .args .x) (c .before .before .before .before .before .before .before .before .before .before .before .before .before .before .args .target) (c .before .before .before .before .before .before .before .before .before .before .before .before .before .before .args .ip) (c .before .before .before .before .before .before .before .before .before .before .before .before .before .before .args .end) (c .before .before .before .before .before .before .before .before .before .before .before .before .before .before .args .floor) _ _ (c .before .before .before .before .before .before .before .before .before .before .before .before .before .before .pre .1 .0) (c .before .before .before .before .before .before .before .before .before .before .before .before .before .before .pre .1 .1 .1 .0) (c .before .before .before .before .before .before .before .before .before .before .before .before .before .before .pre .1 .1 .1 .1) (c .before .before .before .before .before .before .before .before .before .before .before .before .before .before .pre .1 .1 .1 .2) in (
+      omega (
+        arith,
+        q .0,
+        q .1,
+        c .before .before .before .before .before .before .before .before .before .before .before .before .before .before .pre .0,
+      ),
+      (
+        record {
+          placed = c .before .before .before .before .before .before .before .before .before .before .before .before .before .before .pre .1 .0 .placed;
+          from = c .before .before .before .before .before .before .before .before .before .before .before .before .before .before .args .ip + 1;
+          arm = q .2;
+          after = omega arith;
+          before = omega (arith, q .0);
+          floor-low =
+              c .before .before .before .before .before .before .before .before .before .before .before .before .before .before .pre .1 .0 .floor-low;
+          height-low = c .before .before .before .before .before .before .before .before .before .before .before .before .before .before .pre .1 .0 .height-low;
+          breaks-low = c .before .before .before .before .before .before .before .before .before .before .before .before .before .before .pre .1 .0 .breaks-low;
+        },
+        c .before .before .before .before .before .before .before .before .before .before .before .before .before .before .pre .1 .1 .0,
+      ),
+    )
 
 -- src/lib.rt:313:19
 one-arm-enum-told : (t : ℕ) → one-arm-lts.Need-enum-told (
@@ -1288,8 +1502,11 @@ one-arm-add-t37 : (t : ℕ) → one-arm-lts.Need-add-t37 (
   join-ends-reads.Learnt,
 ) (one-arm-at t) one-arm.Post
 one-arm-add-t37 t c =
-    let q = Cycle.one-arm-in (c .before .before .before .before .before .before .before .before .before .before .before .before .before .before .before .before .before .before .before .before .before .args .t .now) (c .before .before .before .before .before .before .before .before .before .before .before .before .before .before .before .before .before .before .before .before .before .args .heights .now) (c .before .before .before .before .before .before .before .before .before .before .before .before .before .before .before .before .before .before .before .before .before .args .blinds .now) (c .before .before .before .before .before .before .before .before .before .before .before .before .before .before .before .before .before .before .before .before .before .args .x) (c .before .before .before .before .before .before .before .before .before .before .before .before .before .before .before .before .before .before .before .before .before .args .target) (c .before .before .before .before .before .before .before .before .before .before .before .before .before .before .before .before .before .before .before .before .before .args .ip) (c .before .before .before .before .before .before .before .before .before .before .before .before .before .before .before .before .before .before .before .before .before .args .end) (c .before .before .before .before .before .before .before .before .before .before .before .before .before .before .before .before .before .before .before .before .before .args .floor) _ _ (c .before .before .before .before .before .before .before .before .before .before .before .before .before .before .before .before .before .before .before .before .before .pre .1 .0) (c .before .before .before .before .before .before .before .before .before .before .before .before .before .before .before .before .before .before .before .before .before .pre .1 .1 .1 .0) (c .before .before .before .before .before .before .before .before .before .before .before .before .before .before .before .before .before .before .before .before .before .pre .1 .1 .1 .1) (c .before .before .before .before .before .before .before .before .before .before .before .before .before .before .before .before .before .before .before .before .before .pre .1 .1 .1 .2) in omega (arith, q .1,
-    c .before .before .before .before .before .before .before .before .before .before .before .before .before .before .before .before .before .before .before .before .before .fits)
+    let q = Cycle.one-arm-in (c .before .before .before .before .before .before .before .before .before .before .before .before .before .before .before .before .before .before .before .before .before .args .t .now) (c .before .before .before .before .before .before .before .before .before .before .before .before .before .before .before .before .before .before .before .before .before .args .heights .now) (c .before .before .before .before .before .before .before .before .before .before .before .before .before .before .before .before .before .before .before .before .before .args .blinds .now) (c .before .before .before .before .before .before .before .before .before .before .before .before .before .before .before .before .before .before .before .before .before .args .x) (c .before .before .before .before .before .before .before .before .before .before .before .before .before .before .before .before .before .before .before .before .before .args .target) (c .before .before .before .before .before .before .before .before .before .before .before .before .before .before .before .before .before .before .before .before .before .args .ip) (c .before .before .before .before .before .before .before .before .before .before .before .before .before .before .before .before .before .before .before .before .before .args .end) (c .before .before .before .before .before .before .before .before .before .before .before .before .before .before .before .before .before .before .before .before .before .args .floor) _ _ (c .before .before .before .before .before .before .before .before .before .before .before .before .before .before .before .before .before .before .before .before .before .pre .1 .0) (c .before .before .before .before .before .before .before .before .before .before .before .before .before .before .before .before .before .before .before .before .before .pre .1 .1 .1 .0) (c .before .before .before .before .before .before .before .before .before .before .before .before .before .before .before .before .before .before .before .before .before .pre .1 .1 .1 .1) (c .before .before .before .before .before .before .before .before .before .before .before .before .before .before .before .before .before .before .before .before .before .pre .1 .1 .1 .2) in omega (
+      arith,
+      q .1,
+      c .before .before .before .before .before .before .before .before .before .before .before .before .before .before .before .before .before .before .before .before .before .fits,
+    )
 
 -- src/lib.rt:312:9
 one-arm-same-length : (t : ℕ) → one-arm-lts.Need-same-length (
@@ -1322,10 +1539,14 @@ one-arm-returns : (t : ℕ) → one-arm-lts.Need-returns (
   join-ends-reads.Asked,
   join-ends-reads.Learnt,
 ) (one-arm-at t) one-arm.Post
-one-arm-returns t c =
-    (c .before .before .before .before .before .before .interp-region .ensures .0, c .before .before .before .before .before .before .interp-region .ensures .1, Cycle.one-refused (c .before .before .before .before .before .before .before .before .before .before .before .before .before .before .before .before .before .before .before .before .before .args .t .now) (c .before .before .before .before .before .before .before .before .before .before .before .before .before .before .before .before .before .before .before .before .before .args .x) (c .before .before .before .before .before .before .before .before .before .before .before .before .before .before .before .before .before .before .before .before .before .args .target) (c .before .before .before .before .before .before .before .before .before .before .before .before .before .before .before .before .before .before .before .before .before .args .ip) (c .before .before .before .before .before .before .before .before .before .before .before .before .before .before .before .before .before .before .before .before .before .args .end) (c .before .before .before .before .before .before .before .before .before .before .before .before .before .before .before .before .before .before .before .before .before .args .floor) (at (c .before .before .before .before .before .before .before .before .before .before .before .before .before .before .before .before .before .before .before .before .before .args .height) (c .before .before .before .before .before .before .before .before .before .before .before .before .before .before .before .before .before .before .before .before .before .args .slots .now) (c .before .before .before .before .before .before .before .before .before .before .before .before .before .before .before .before .before .before .before .before .before .args .places .now)) (breaksIn (c .before .before .before .before .before .before .before .before .before .before .before .before .before .before .before .before .before .before .before .before .before .args .b) (c .before .before .before .before .before .before .before .before .before .before .before .before .before .before .before .before .before .before .before .before .before .args .broken .now) (c .before .before .before .before .before .before .before .before .before .before .before .before .before .before .before .before .before .before .before .before .before .args .held .now)) _ _ (outcomeIn (c .before .before .before .before .before .before .interp-region .result) (c .before .before .before .before .before .before .interp-region .last .1 .1 .1 .0) (c .before .before .before .before .before .before .interp-region .last .1 .1 .1 .1 .0) (c .before .before .before .before .before .before .interp-region .last .1 .1 .1 .1 .1 .0) (c .before .before .before .before .before .before .interp-region .last .1 .1 .1 .1 .1 .1 .0)) (c .before .before .before .before .before .before .before .before .before .before .before .before .before .before .before .before .before .before .before .before .before .pre .1 .1 .1 .2)
-    (c .before .before .before .before .before .before .interp-region .ensures .2) ((c .before .before .before .before .before .before .before .before .before .before .before .before .before .before .before .before .before .before .before .before .before .args .target) + 1) (c .enum-told .given .1), (let q = Cycle.one-arm-in (c .before .before .before .before .before .before .before .before .before .before .before .before .before .before .before .before .before .before .before .before .before .args .t .now) (c .before .before .before .before .before .before .before .before .before .before .before .before .before .before .before .before .before .before .before .before .before .args .heights .now) (c .before .before .before .before .before .before .before .before .before .before .before .before .before .before .before .before .before .before .before .before .before .args .blinds .now) (c .before .before .before .before .before .before .before .before .before .before .before .before .before .before .before .before .before .before .before .before .before .args .x) (c .before .before .before .before .before .before .before .before .before .before .before .before .before .before .before .before .before .before .before .before .before .args .target) (c .before .before .before .before .before .before .before .before .before .before .before .before .before .before .before .before .before .before .before .before .before .args .ip) (c .before .before .before .before .before .before .before .before .before .before .before .before .before .before .before .before .before .before .before .before .before .args .end) (c .before .before .before .before .before .before .before .before .before .before .before .before .before .before .before .before .before .before .before .before .before .args .floor) _ _ (c .before .before .before .before .before .before .before .before .before .before .before .before .before .before .before .before .before .before .before .before .before .pre .1 .0)
-    (c .before .before .before .before .before .before .before .before .before .before .before .before .before .before .before .before .before .before .before .before .before .pre .1 .1 .1 .0) (c .before .before .before .before .before .before .before .before .before .before .before .before .before .before .before .before .before .before .before .before .before .pre .1 .1 .1 .1) (c .before .before .before .before .before .before .before .before .before .before .before .before .before .before .before .before .before .before .before .before .before .pre .1 .1 .1 .2) in (omega (arith, q .0), omega (arith, q .1), c .before .before .before .before .before .before .interp-region .ensures .3)))
+one-arm-returns t c = (
+  c .before .before .before .before .before .before .interp-region .ensures .0,
+  c .before .before .before .before .before .before .interp-region .ensures .1,
+  Cycle.one-refused (c .before .before .before .before .before .before .before .before .before .before .before .before .before .before .before .before .before .before .before .before .before .args .t .now) (c .before .before .before .before .before .before .before .before .before .before .before .before .before .before .before .before .before .before .before .before .before .args .x) (c .before .before .before .before .before .before .before .before .before .before .before .before .before .before .before .before .before .before .before .before .before .args .target) (c .before .before .before .before .before .before .before .before .before .before .before .before .before .before .before .before .before .before .before .before .before .args .ip) (c .before .before .before .before .before .before .before .before .before .before .before .before .before .before .before .before .before .before .before .before .before .args .end) (c .before .before .before .before .before .before .before .before .before .before .before .before .before .before .before .before .before .before .before .before .before .args .floor) (at (c .before .before .before .before .before .before .before .before .before .before .before .before .before .before .before .before .before .before .before .before .before .args .height) (c .before .before .before .before .before .before .before .before .before .before .before .before .before .before .before .before .before .before .before .before .before .args .slots .now) (c .before .before .before .before .before .before .before .before .before .before .before .before .before .before .before .before .before .before .before .before .before .args .places .now)) (breaksIn (c .before .before .before .before .before .before .before .before .before .before .before .before .before .before .before .before .before .before .before .before .before .args .b) (c .before .before .before .before .before .before .before .before .before .before .before .before .before .before .before .before .before .before .before .before .before .args .broken .now) (c .before .before .before .before .before .before .before .before .before .before .before .before .before .before .before .before .before .before .before .before .before .args .held .now)) _ _ (outcomeIn (c .before .before .before .before .before .before .interp-region .result) (c .before .before .before .before .before .before .interp-region .last .1 .1 .1 .0) (c .before .before .before .before .before .before .interp-region .last .1 .1 .1 .1 .0) (c .before .before .before .before .before .before .interp-region .last .1 .1 .1 .1 .1 .0) (c .before .before .before .before .before .before .interp-region .last .1 .1 .1 .1 .1 .1 .0)) (c .before .before .before .before .before .before .before .before .before .before .before .before .before .before .before .before .before .before .before .before .before .pre .1 .1 .1 .2)
+      (c .before .before .before .before .before .before .interp-region .ensures .2) ((c .before .before .before .before .before .before .before .before .before .before .before .before .before .before .before .before .before .before .before .before .before .args .target) + 1) (c .enum-told .given .1),
+  (let q = Cycle.one-arm-in (c .before .before .before .before .before .before .before .before .before .before .before .before .before .before .before .before .before .before .before .before .before .args .t .now) (c .before .before .before .before .before .before .before .before .before .before .before .before .before .before .before .before .before .before .before .before .before .args .heights .now) (c .before .before .before .before .before .before .before .before .before .before .before .before .before .before .before .before .before .before .before .before .before .args .blinds .now) (c .before .before .before .before .before .before .before .before .before .before .before .before .before .before .before .before .before .before .before .before .before .args .x) (c .before .before .before .before .before .before .before .before .before .before .before .before .before .before .before .before .before .before .before .before .before .args .target) (c .before .before .before .before .before .before .before .before .before .before .before .before .before .before .before .before .before .before .before .before .before .args .ip) (c .before .before .before .before .before .before .before .before .before .before .before .before .before .before .before .before .before .before .before .before .before .args .end) (c .before .before .before .before .before .before .before .before .before .before .before .before .before .before .before .before .before .before .before .before .before .args .floor) _ _ (c .before .before .before .before .before .before .before .before .before .before .before .before .before .before .before .before .before .before .before .before .before .pre .1 .0)
+      (c .before .before .before .before .before .before .before .before .before .before .before .before .before .before .before .before .before .before .before .before .before .pre .1 .1 .1 .0) (c .before .before .before .before .before .before .before .before .before .before .before .before .before .before .before .before .before .before .before .before .before .pre .1 .1 .1 .1) (c .before .before .before .before .before .before .before .before .before .before .before .before .before .before .before .before .before .before .before .before .before .pre .1 .1 .1 .2) in (omega (arith, q .0), omega (arith, q .1), c .before .before .before .before .before .before .interp-region .ensures .3)),
+)
 
 -- src/lib.rt:319:9
 one-arm-join-ends-requires : (t : ℕ) → one-arm-lts.Need-join-ends-requires (
@@ -1336,9 +1557,20 @@ one-arm-join-ends-requires : (t : ℕ) → one-arm-lts.Need-join-ends-requires (
   join-ends-reads.Asked,
   join-ends-reads.Learnt,
 ) (one-arm-at t) one-arm.Post
-one-arm-join-ends-requires t c κs =
-    (c .before .before .before .before .before .before .before .before .before .before .interp-region .ensures .0, c .before .before .before .before .before .before .before .before .before .before .before .before .before .before .before .before .before .copy .ensures .0, c .before .before .before .before .before .before .before .before .before .before .interp-region .ensures .3 .0, c .before .before .before .before .before .before .before .before .before .before .before .before .before .before .before .before .before .before .before .before .before .before .before .before .before .pre .1 .0 .height-low, c .before .before .before .before .before .before .before .before .before .before .interp-region .ensures .3 .1, omega (arith,
-    c .before .before .before .before .before .before .before .before .before .before .before .before .before .before .before .before .before .before .before .before .before .before .before .before .before .pre .1 .0 .placed .of .locals, locals-low (c .before .before .before .before .before .before .before .before .before .before .before .before .before .before .before .before .before .before .before .before .before .before .before .before .before .args .t .now) (c .before .before .before .before .before .before .before .before .before .before .before .before .before .before .before .before .before .before .before .before .before .before .before .before .before .args .x .chunk)), (Laws.open-by (c .before .before .before .before .before .before .before .before .before .before .interp-region .result .flow) (c .before .before .before .before .before .match .keys2)), tt)
+one-arm-join-ends-requires t c κs = (
+  c .before .before .before .before .before .before .before .before .before .before .interp-region .ensures .0,
+  c .before .before .before .before .before .before .before .before .before .before .before .before .before .before .before .before .before .copy .ensures .0,
+  c .before .before .before .before .before .before .before .before .before .before .interp-region .ensures .3 .0,
+  c .before .before .before .before .before .before .before .before .before .before .before .before .before .before .before .before .before .before .before .before .before .before .before .before .before .pre .1 .0 .height-low,
+  c .before .before .before .before .before .before .before .before .before .before .interp-region .ensures .3 .1,
+  omega (
+    arith,
+    c .before .before .before .before .before .before .before .before .before .before .before .before .before .before .before .before .before .before .before .before .before .before .before .before .before .pre .1 .0 .placed .of .locals,
+    locals-low (c .before .before .before .before .before .before .before .before .before .before .before .before .before .before .before .before .before .before .before .before .before .before .before .before .before .args .t .now) (c .before .before .before .before .before .before .before .before .before .before .before .before .before .before .before .before .before .before .before .before .before .before .before .before .before .args .x .chunk),
+  ),
+  (Laws.open-by (c .before .before .before .before .before .before .before .before .before .before .interp-region .result .flow) (c .before .before .before .before .before .match .keys2)),
+  tt,
+)
 
 -- src/lib.rt:333:15
 one-arm-add-t36 : (t : ℕ) → one-arm-lts.Need-add-t36 (
@@ -1350,8 +1582,11 @@ one-arm-add-t36 : (t : ℕ) → one-arm-lts.Need-add-t36 (
   join-ends-reads.Learnt,
 ) (one-arm-at t) one-arm.Post
 one-arm-add-t36 t c =
-    let q = Cycle.one-arm-in (c .before .before .before .before .before .before .before .before .before .before .before .before .before .before .before .before .before .before .before .before .before .before .before .before .before .before .args .t .now) (c .before .before .before .before .before .before .before .before .before .before .before .before .before .before .before .before .before .before .before .before .before .before .before .before .before .before .args .heights .now) (c .before .before .before .before .before .before .before .before .before .before .before .before .before .before .before .before .before .before .before .before .before .before .before .before .before .before .args .blinds .now) (c .before .before .before .before .before .before .before .before .before .before .before .before .before .before .before .before .before .before .before .before .before .before .before .before .before .before .args .x) (c .before .before .before .before .before .before .before .before .before .before .before .before .before .before .before .before .before .before .before .before .before .before .before .before .before .before .args .target) (c .before .before .before .before .before .before .before .before .before .before .before .before .before .before .before .before .before .before .before .before .before .before .before .before .before .before .args .ip) (c .before .before .before .before .before .before .before .before .before .before .before .before .before .before .before .before .before .before .before .before .before .before .before .before .before .before .args .end) (c .before .before .before .before .before .before .before .before .before .before .before .before .before .before .before .before .before .before .before .before .before .before .before .before .before .before .args .floor) _ _ (c .before .before .before .before .before .before .before .before .before .before .before .before .before .before .before .before .before .before .before .before .before .before .before .before .before .before .pre .1 .0) (c .before .before .before .before .before .before .before .before .before .before .before .before .before .before .before .before .before .before .before .before .before .before .before .before .before .before .pre .1 .1 .1 .0) (c .before .before .before .before .before .before .before .before .before .before .before .before .before .before .before .before .before .before .before .before .before .before .before .before .before .before .pre .1 .1 .1 .1) (c .before .before .before .before .before .before .before .before .before .before .before .before .before .before .before .before .before .before .before .before .before .before .before .before .before .before .pre .1 .1 .1 .2) in omega (arith, q .1,
-    c .before .before .before .before .before .before .before .before .before .before .before .before .before .before .before .before .before .before .before .before .before .before .before .before .before .before .fits)
+    let q = Cycle.one-arm-in (c .before .before .before .before .before .before .before .before .before .before .before .before .before .before .before .before .before .before .before .before .before .before .before .before .before .before .args .t .now) (c .before .before .before .before .before .before .before .before .before .before .before .before .before .before .before .before .before .before .before .before .before .before .before .before .before .before .args .heights .now) (c .before .before .before .before .before .before .before .before .before .before .before .before .before .before .before .before .before .before .before .before .before .before .before .before .before .before .args .blinds .now) (c .before .before .before .before .before .before .before .before .before .before .before .before .before .before .before .before .before .before .before .before .before .before .before .before .before .before .args .x) (c .before .before .before .before .before .before .before .before .before .before .before .before .before .before .before .before .before .before .before .before .before .before .before .before .before .before .args .target) (c .before .before .before .before .before .before .before .before .before .before .before .before .before .before .before .before .before .before .before .before .before .before .before .before .before .before .args .ip) (c .before .before .before .before .before .before .before .before .before .before .before .before .before .before .before .before .before .before .before .before .before .before .before .before .before .before .args .end) (c .before .before .before .before .before .before .before .before .before .before .before .before .before .before .before .before .before .before .before .before .before .before .before .before .before .before .args .floor) _ _ (c .before .before .before .before .before .before .before .before .before .before .before .before .before .before .before .before .before .before .before .before .before .before .before .before .before .before .pre .1 .0) (c .before .before .before .before .before .before .before .before .before .before .before .before .before .before .before .before .before .before .before .before .before .before .before .before .before .before .pre .1 .1 .1 .0) (c .before .before .before .before .before .before .before .before .before .before .before .before .before .before .before .before .before .before .before .before .before .before .before .before .before .before .pre .1 .1 .1 .1) (c .before .before .before .before .before .before .before .before .before .before .before .before .before .before .before .before .before .before .before .before .before .before .before .before .before .before .pre .1 .1 .1 .2) in omega (
+      arith,
+      q .1,
+      c .before .before .before .before .before .before .before .before .before .before .before .before .before .before .before .before .before .before .before .before .before .before .before .before .before .before .fits,
+    )
 
 -- src/lib.rt:270:1
 one-arm-same-length-3 : (t : ℕ) → one-arm-lts.Need-same-length-3 (
@@ -1385,14 +1620,18 @@ one-arm-returns-2 : (t : ℕ) → one-arm-lts.Need-returns-2 (
   join-ends-reads.Learnt,
 ) (one-arm-at t) one-arm.Post
 unfolding Outcomes.fallOf
-one-arm-returns-2 t c =
-    (c .join-ends .ensures .0, c .before .before .before .before .before .before .before .before .before .before .before .interp-region .ensures .1, Cycle.one-joined (c .before .before .before .before .before .before .before .before .before .before .before .before .before .before .before .before .before .before .before .before .before .before .before .before .before .before .args .t .now) (c .before .before .before .before .before .before .before .before .before .before .before .before .before .before .before .before .before .before .before .before .before .before .before .before .before .before .args .x) (c .before .before .before .before .before .before .before .before .before .before .before .before .before .before .before .before .before .before .before .before .before .before .before .before .before .before .args .target) (c .before .before .before .before .before .before .before .before .before .before .before .before .before .before .before .before .before .before .before .before .before .before .before .before .before .before .args .ip) (c .before .before .before .before .before .before .before .before .before .before .before .before .before .before .before .before .before .before .before .before .before .before .before .before .before .before .args .end) (c .before .before .before .before .before .before .before .before .before .before .before .before .before .before .before .before .before .before .before .before .before .before .before .before .before .before .args .floor) (at (c .before .before .before .before .before .before .before .before .before .before .before .before .before .before .before .before .before .before .before .before .before .before .before .before .before .before .args .height) (c .before .before .before .before .before .before .before .before .before .before .before .before .before .before .before .before .before .before .before .before .before .before .before .before .before .before .args .slots .now) (c .before .before .before .before .before .before .before .before .before .before .before .before .before .before .before .before .before .before .before .before .before .before .before .before .before .before .args .places .now)) (breaksIn (c .before .before .before .before .before .before .before .before .before .before .before .before .before .before .before .before .before .before .before .before .before .before .before .before .before .before .args .b) (c .before .before .before .before .before .before .before .before .before .before .before .before .before .before .before .before .before .before .before .before .before .before .before .before .before .before .args .broken .now) (c .before .before .before .before .before .before .before .before .before .before .before .before .before .before .before .before .before .before .before .before .before .before .before .before .before .before .args .held .now)) _ _ (outcomeIn (c .before .before .before .before .before .before .before .before .before .before .before .interp-region .result) (c .before .before .before .before .before .before .before .before .before .before .before .interp-region .last .1 .1 .1 .0) (c .before .before .before .before .before .before .before .before .before .before .before .interp-region .last .1 .1 .1 .1 .0) (c .before .before .before .before .before .before .before .before .before .before .before .interp-region .last .1 .1 .1 .1 .1 .0) (c .before .before .before .before .before .before .before .before .before .before .before .interp-region .last .1 .1 .1 .1 .1 .1 .0)) (c .before .before .before .before .before .before .before .before .before .before .before .before .before .before .before .before .before .before .before .before .before .before .before .before .before .before .pre .1 .1 .1 .2)
-    (c .before .before .before .before .before .before .before .before .before .before .before .interp-region .ensures .2) (Laws.open-by (c .before .before .before .before .before .before .before .before .before .before .before .interp-region .result .flow) (c .before .before .before .before .before .before .match .keys2)) (outcomeIn (c .join-ends .result) (c .join-ends .last .0)
-    (c .join-ends .last .1 .0) (c .before .before .before .before .before .before .before .before .before .before .before .interp-region .last .1 .1 .1 .1 .1 .0) (c .before .before .before .before .before .before .before .before .before .before .before .interp-region .last .1 .1 .1 .1 .1 .1 .0)) (c .join-ends .ensures .1 (c .before .before .before .before .before .before .before .before .before .before .before .interp-region .last .1 .1 .1 .1 .1 .0) (c .before .before .before .before .before .before .before .before .before .before .before .interp-region .last .1 .1 .1 .1 .1 .1 .0) _ ∙ ap (λ (z : AnyState). Outcomes.meets (c .before .before .before .before .before .before .before .before .before .before .before .before .before .before .before .before .before .before .before .before .before .before .before .before .before .before .args .ip)
-    (Outcomes.fallOf (c .before .before .before .before .before .before .before .before .before .before .before .before .before .before .before .before .before .before .before .before .before .before .before .before .before .before .args .x .locals) (at (c .before .before .before .before .before .before .before .before .before .before .before .interp-region .result .height) (c .before .before .before .before .before .before .before .before .before .before .before .interp-region .last .1 .1 .1 .0) (c .before .before .before .before .before .before .before .before .before .before .before .interp-region .last .1 .1 .1 .1 .0)) (c .before .before .before .before .before .before .before .before .before .before .before .interp-region .result .flow)) (some z)
-    (Outcomes.breaksOf (c .before .before .before .before .before .before .before .before .before .before .before .before .before .before .before .before .before .before .before .before .before .before .before .before .before .before .args .x .locals) (breaksIn (c .before .before .before .before .before .before .before .before .before .before .before .interp-region .result .breaks) (c .before .before .before .before .before .before .before .before .before .before .before .interp-region .last .1 .1 .1 .1 .1 .0) (c .before .before .before .before .before .before .before .before .before .before .before .interp-region .last .1 .1 .1 .1 .1 .1 .0))) (sheetsOf (c .before .before .before .before .before .before .before .before .before .before .before .interp-region .last .1 .0)
-    (c .before .before .before .before .before .before .before .before .before .before .before .interp-region .last .1 .1 .0))) (c .before .before .before .before .before .before .before .before .before .before .before .before .before .before .before .before .before .before .copy .ensures .1)), (let q = Cycle.one-arm-in (c .before .before .before .before .before .before .before .before .before .before .before .before .before .before .before .before .before .before .before .before .before .before .before .before .before .before .args .t .now) (c .before .before .before .before .before .before .before .before .before .before .before .before .before .before .before .before .before .before .before .before .before .before .before .before .before .before .args .heights .now) (c .before .before .before .before .before .before .before .before .before .before .before .before .before .before .before .before .before .before .before .before .before .before .before .before .before .before .args .blinds .now) (c .before .before .before .before .before .before .before .before .before .before .before .before .before .before .before .before .before .before .before .before .before .before .before .before .before .before .args .x) (c .before .before .before .before .before .before .before .before .before .before .before .before .before .before .before .before .before .before .before .before .before .before .before .before .before .before .args .target) (c .before .before .before .before .before .before .before .before .before .before .before .before .before .before .before .before .before .before .before .before .before .before .before .before .before .before .args .ip) (c .before .before .before .before .before .before .before .before .before .before .before .before .before .before .before .before .before .before .before .before .before .before .before .before .before .before .args .end) (c .before .before .before .before .before .before .before .before .before .before .before .before .before .before .before .before .before .before .before .before .before .before .before .before .before .before .args .floor) _ _ (c .before .before .before .before .before .before .before .before .before .before .before .before .before .before .before .before .before .before .before .before .before .before .before .before .before .before .pre .1 .0) (c .before .before .before .before .before .before .before .before .before .before .before .before .before .before .before .before .before .before .before .before .before .before .before .before .before .before .pre .1 .1 .1 .0)
-    (c .before .before .before .before .before .before .before .before .before .before .before .before .before .before .before .before .before .before .before .before .before .before .before .before .before .before .pre .1 .1 .1 .1) (c .before .before .before .before .before .before .before .before .before .before .before .before .before .before .before .before .before .before .before .before .before .before .before .before .before .before .pre .1 .1 .1 .2) in (omega (arith, q .0), omega (arith, q .1), c .join-ends .ensures .2)))
+one-arm-returns-2 t c = (
+  c .join-ends .ensures .0,
+  c .before .before .before .before .before .before .before .before .before .before .before .interp-region .ensures .1,
+  Cycle.one-joined (c .before .before .before .before .before .before .before .before .before .before .before .before .before .before .before .before .before .before .before .before .before .before .before .before .before .before .args .t .now) (c .before .before .before .before .before .before .before .before .before .before .before .before .before .before .before .before .before .before .before .before .before .before .before .before .before .before .args .x) (c .before .before .before .before .before .before .before .before .before .before .before .before .before .before .before .before .before .before .before .before .before .before .before .before .before .before .args .target) (c .before .before .before .before .before .before .before .before .before .before .before .before .before .before .before .before .before .before .before .before .before .before .before .before .before .before .args .ip) (c .before .before .before .before .before .before .before .before .before .before .before .before .before .before .before .before .before .before .before .before .before .before .before .before .before .before .args .end) (c .before .before .before .before .before .before .before .before .before .before .before .before .before .before .before .before .before .before .before .before .before .before .before .before .before .before .args .floor) (at (c .before .before .before .before .before .before .before .before .before .before .before .before .before .before .before .before .before .before .before .before .before .before .before .before .before .before .args .height) (c .before .before .before .before .before .before .before .before .before .before .before .before .before .before .before .before .before .before .before .before .before .before .before .before .before .before .args .slots .now) (c .before .before .before .before .before .before .before .before .before .before .before .before .before .before .before .before .before .before .before .before .before .before .before .before .before .before .args .places .now)) (breaksIn (c .before .before .before .before .before .before .before .before .before .before .before .before .before .before .before .before .before .before .before .before .before .before .before .before .before .before .args .b) (c .before .before .before .before .before .before .before .before .before .before .before .before .before .before .before .before .before .before .before .before .before .before .before .before .before .before .args .broken .now) (c .before .before .before .before .before .before .before .before .before .before .before .before .before .before .before .before .before .before .before .before .before .before .before .before .before .before .args .held .now)) _ _ (outcomeIn (c .before .before .before .before .before .before .before .before .before .before .before .interp-region .result) (c .before .before .before .before .before .before .before .before .before .before .before .interp-region .last .1 .1 .1 .0) (c .before .before .before .before .before .before .before .before .before .before .before .interp-region .last .1 .1 .1 .1 .0) (c .before .before .before .before .before .before .before .before .before .before .before .interp-region .last .1 .1 .1 .1 .1 .0) (c .before .before .before .before .before .before .before .before .before .before .before .interp-region .last .1 .1 .1 .1 .1 .1 .0)) (c .before .before .before .before .before .before .before .before .before .before .before .before .before .before .before .before .before .before .before .before .before .before .before .before .before .before .pre .1 .1 .1 .2)
+      (c .before .before .before .before .before .before .before .before .before .before .before .interp-region .ensures .2) (Laws.open-by (c .before .before .before .before .before .before .before .before .before .before .before .interp-region .result .flow) (c .before .before .before .before .before .before .match .keys2)) (outcomeIn (c .join-ends .result) (c .join-ends .last .0)
+      (c .join-ends .last .1 .0) (c .before .before .before .before .before .before .before .before .before .before .before .interp-region .last .1 .1 .1 .1 .1 .0) (c .before .before .before .before .before .before .before .before .before .before .before .interp-region .last .1 .1 .1 .1 .1 .1 .0)) (c .join-ends .ensures .1 (c .before .before .before .before .before .before .before .before .before .before .before .interp-region .last .1 .1 .1 .1 .1 .0) (c .before .before .before .before .before .before .before .before .before .before .before .interp-region .last .1 .1 .1 .1 .1 .1 .0) _ ∙ ap (λ (z : AnyState). Outcomes.meets (c .before .before .before .before .before .before .before .before .before .before .before .before .before .before .before .before .before .before .before .before .before .before .before .before .before .before .args .ip)
+      (Outcomes.fallOf (c .before .before .before .before .before .before .before .before .before .before .before .before .before .before .before .before .before .before .before .before .before .before .before .before .before .before .args .x .locals) (at (c .before .before .before .before .before .before .before .before .before .before .before .interp-region .result .height) (c .before .before .before .before .before .before .before .before .before .before .before .interp-region .last .1 .1 .1 .0) (c .before .before .before .before .before .before .before .before .before .before .before .interp-region .last .1 .1 .1 .1 .0)) (c .before .before .before .before .before .before .before .before .before .before .before .interp-region .result .flow)) (some z)
+      (Outcomes.breaksOf (c .before .before .before .before .before .before .before .before .before .before .before .before .before .before .before .before .before .before .before .before .before .before .before .before .before .before .args .x .locals) (breaksIn (c .before .before .before .before .before .before .before .before .before .before .before .interp-region .result .breaks) (c .before .before .before .before .before .before .before .before .before .before .before .interp-region .last .1 .1 .1 .1 .1 .0) (c .before .before .before .before .before .before .before .before .before .before .before .interp-region .last .1 .1 .1 .1 .1 .1 .0))) (sheetsOf (c .before .before .before .before .before .before .before .before .before .before .before .interp-region .last .1 .0)
+      (c .before .before .before .before .before .before .before .before .before .before .before .interp-region .last .1 .1 .0))) (c .before .before .before .before .before .before .before .before .before .before .before .before .before .before .before .before .before .before .copy .ensures .1)),
+  (let q = Cycle.one-arm-in (c .before .before .before .before .before .before .before .before .before .before .before .before .before .before .before .before .before .before .before .before .before .before .before .before .before .before .args .t .now) (c .before .before .before .before .before .before .before .before .before .before .before .before .before .before .before .before .before .before .before .before .before .before .before .before .before .before .args .heights .now) (c .before .before .before .before .before .before .before .before .before .before .before .before .before .before .before .before .before .before .before .before .before .before .before .before .before .before .args .blinds .now) (c .before .before .before .before .before .before .before .before .before .before .before .before .before .before .before .before .before .before .before .before .before .before .before .before .before .before .args .x) (c .before .before .before .before .before .before .before .before .before .before .before .before .before .before .before .before .before .before .before .before .before .before .before .before .before .before .args .target) (c .before .before .before .before .before .before .before .before .before .before .before .before .before .before .before .before .before .before .before .before .before .before .before .before .before .before .args .ip) (c .before .before .before .before .before .before .before .before .before .before .before .before .before .before .before .before .before .before .before .before .before .before .before .before .before .before .args .end) (c .before .before .before .before .before .before .before .before .before .before .before .before .before .before .before .before .before .before .before .before .before .before .before .before .before .before .args .floor) _ _ (c .before .before .before .before .before .before .before .before .before .before .before .before .before .before .before .before .before .before .before .before .before .before .before .before .before .before .pre .1 .0) (c .before .before .before .before .before .before .before .before .before .before .before .before .before .before .before .before .before .before .before .before .before .before .before .before .before .before .pre .1 .1 .1 .0)
+      (c .before .before .before .before .before .before .before .before .before .before .before .before .before .before .before .before .before .before .before .before .before .before .before .before .before .before .pre .1 .1 .1 .1) (c .before .before .before .before .before .before .before .before .before .before .before .before .before .before .before .before .before .before .before .before .before .before .before .before .before .before .pre .1 .1 .1 .2) in (omega (arith, q .0), omega (arith, q .1), c .join-ends .ensures .2)),
+)
 
 abbrev passes-at-Inv-passes : passes-at-lts.InvT-passes
 passes-at-Inv-passes t heights₀ blinds₀ slots₀ places₀ broken₀ held₀ x ip exit height locals head₀ texts₀ body last left₀ heights blinds slots places broken held head texts left =
@@ -1515,9 +1754,14 @@ passes-at-passes-holds : (t : ℕ) → passes-at-lts.Need-passes-holds (
   join-locals-reads.Asked,
   join-locals-reads.Learnt,
 ) (passes-at-at t) passes-at.Post passes-at-Inv-passes passes-at-μ-passes
-passes-at-passes-holds t c =
-    (c .before .before .before .before .before .before .before .before .pre .1 .1 .0 .0, c .before .before .before .before .before .before .before .before .pre .1 .1 .0 .1, c .copy .ensures .0, sym (c .copy .ensures .1), Cycle.passing-start (c .before .before .before .before .before .before .before .before .args .t .now) (c .before .before .before .before .before .before .before .before .args .x) (c .before .before .before .before .before .before .before .before .args .ip) (c .before .before .before .before .before .before .before .before .args .exit) (at (c .before .before .before .before .before .before .before .before .args .height) (c .before .before .before .before .before .before .before .before .args .slots .now) (c .before .before .before .before .before .before .before .before .args .places .now)) (at (c .before .before .before .before .before .before .before .before .args .height) (c .copy .last .0)
-    (c .copy .last .1 .0)) refl (c .copy .ensures .1) (c .before .before .before .before .before .before .before .before .args .heights .now) (c .before .before .before .before .before .before .before .before .args .blinds .now) (c .before .before .before .before .before .before .before .before .pre .1 .0 .of .locals) (omega (arith, c .before .before .before .before .before .before .before .before .pre .1 .0 .of .locals, locals-low (c .before .before .before .before .before .before .before .before .args .t .now) (c .before .before .before .before .before .before .before .before .args .x .chunk))))
+passes-at-passes-holds t c = (
+  c .before .before .before .before .before .before .before .before .pre .1 .1 .0 .0,
+  c .before .before .before .before .before .before .before .before .pre .1 .1 .0 .1,
+  c .copy .ensures .0,
+  sym (c .copy .ensures .1),
+  Cycle.passing-start (c .before .before .before .before .before .before .before .before .args .t .now) (c .before .before .before .before .before .before .before .before .args .x) (c .before .before .before .before .before .before .before .before .args .ip) (c .before .before .before .before .before .before .before .before .args .exit) (at (c .before .before .before .before .before .before .before .before .args .height) (c .before .before .before .before .before .before .before .before .args .slots .now) (c .before .before .before .before .before .before .before .before .args .places .now)) (at (c .before .before .before .before .before .before .before .before .args .height) (c .copy .last .0)
+      (c .copy .last .1 .0)) refl (c .copy .ensures .1) (c .before .before .before .before .before .before .before .before .args .heights .now) (c .before .before .before .before .before .before .before .before .args .blinds .now) (c .before .before .before .before .before .before .before .before .pre .1 .0 .of .locals) (omega (arith, c .before .before .before .before .before .before .before .before .pre .1 .0 .of .locals, locals-low (c .before .before .before .before .before .before .before .before .args .t .now) (c .before .before .before .before .before .before .before .before .args .x .chunk))),
+)
 
 -- src/lib.rt:503:13
 passes-at-interp-region-requires : (t : ℕ) → passes-at-lts.Need-interp-region-requires (
@@ -1540,12 +1784,28 @@ passes-at-interp-region-requires : (t : ℕ) → passes-at-lts.Need-interp-regio
   join-locals-reads.Asked,
   join-locals-reads.Learnt,
 ) (passes-at-at t) passes-at.Post passes-at-Inv-passes passes-at-μ-passes
-passes-at-interp-region-requires t c κs =
-    (omega (arith, c .before .before .before .before .before .before .before .before .before .before .before .before .before .before .before .pre .0, c .before .before .before .before .before .before .before .before .before .before .before .before .before .before .before .pre .1 .1 .1 .0), (record { placed = Cycle.placed-by (c .before .before .before .before .before .before .before .before .before .before .before .before .before .before .before .args .t .now) (c .before .before .before .before .before .before .before .before .before .before .before .before .before .before .before .args .heights .now) (c .before .before .before .before .before .before .before .before .before .before .before .before .before .before .before .args .blinds .now) (c .before .before .before .before .before .before .passes .heights) (c .before .before .before .before .before .before .passes .blinds) (c .before .before .before .before .before .before .before .before .before .before .before .before .before .before .before .args .x)
-    ((c .before .before .before .before .before .before .passes .inv .4) .heights-same) ((c .before .before .before .before .before .before .passes .inv .4) .blinds-same) (c .before .before .before .before .before .before .before .before .before .before .before .before .before .before .before .pre .1 .0); from = c .before .before .before .before .before .before .before .before .before .before .before .before .before .before .before .args .ip + 1; arm = Cycle.loop-arm-in (c .before .before .before .before .before .before .before .before .before .before .before .before .before .before .before .args .t .now) (c .before .before .before .before .before .before .before .before .before .before .before .before .before .before .before .args .x) (c .before .before .before .before .before .before .before .before .before .before .before .before .before .before .before .args .ip) (c .before .before .before .before .before .before .before .before .before .before .before .before .before .before .before .args .exit)
-    (c .before .before .before .before .before .before .before .before .before .before .before .before .before .before .before .pre .1 .0 .of .first) (c .before .before .before .before .before .before .before .before .before .before .before .before .before .before .before .pre .1 .0 .of .count) (omega (arith, c .before .before .before .before .before .before .before .before .before .before .before .before .before .before .before .pre .1 .1 .1 .0, c .before .before .before .before .before .before .before .before .before .before .before .before .before .before .before .pre .1 .1 .1 .1)) (c .before .before .before .before .before .before .before .before .before .before .before .before .before .before .before .pre .1 .1 .1 .3); after = omega arith; before = omega
-    (arith, c .before .before .before .before .before .before .before .before .before .before .before .before .before .before .before .pre .1 .1 .1 .0); floor-low = c .before .before .before .before .before .before .before .before .before .before .before .before .before .before .before .pre .1 .1 .1 .2; height-low = c .before .before .before .before .before .before .before .before .before .before .before .before .before .before .before .pre .1 .1 .1 .2; breaks-low = omega arith }, (c .before .before .before .before .before .before .passes .inv .0,
-    c .before .before .before .before .before .before .passes .inv .1)))
+passes-at-interp-region-requires t c κs = (
+  omega (arith, c .before .before .before .before .before .before .before .before .before .before .before .before .before .before .before .pre .0, c .before .before .before .before .before .before .before .before .before .before .before .before .before .before .before .pre .1 .1 .1 .0),
+  (
+    record {
+      placed = Cycle.placed-by (c .before .before .before .before .before .before .before .before .before .before .before .before .before .before .before .args .t .now) (c .before .before .before .before .before .before .before .before .before .before .before .before .before .before .before .args .heights .now) (c .before .before .before .before .before .before .before .before .before .before .before .before .before .before .before .args .blinds .now) (c .before .before .before .before .before .before .passes .heights) (c .before .before .before .before .before .before .passes .blinds) (c .before .before .before .before .before .before .before .before .before .before .before .before .before .before .before .args .x)
+          ((c .before .before .before .before .before .before .passes .inv .4) .heights-same) ((c .before .before .before .before .before .before .passes .inv .4) .blinds-same) (c .before .before .before .before .before .before .before .before .before .before .before .before .before .before .before .pre .1 .0);
+      from = c .before .before .before .before .before .before .before .before .before .before .before .before .before .before .before .args .ip + 1;
+      arm = Cycle.loop-arm-in (c .before .before .before .before .before .before .before .before .before .before .before .before .before .before .before .args .t .now) (c .before .before .before .before .before .before .before .before .before .before .before .before .before .before .before .args .x) (c .before .before .before .before .before .before .before .before .before .before .before .before .before .before .before .args .ip) (c .before .before .before .before .before .before .before .before .before .before .before .before .before .before .before .args .exit)
+          (c .before .before .before .before .before .before .before .before .before .before .before .before .before .before .before .pre .1 .0 .of .first) (c .before .before .before .before .before .before .before .before .before .before .before .before .before .before .before .pre .1 .0 .of .count) (omega (arith, c .before .before .before .before .before .before .before .before .before .before .before .before .before .before .before .pre .1 .1 .1 .0, c .before .before .before .before .before .before .before .before .before .before .before .before .before .before .before .pre .1 .1 .1 .1)) (c .before .before .before .before .before .before .before .before .before .before .before .before .before .before .before .pre .1 .1 .1 .3);
+      after = omega arith;
+      before = omega
+          (arith, c .before .before .before .before .before .before .before .before .before .before .before .before .before .before .before .pre .1 .1 .1 .0);
+      floor-low = c .before .before .before .before .before .before .before .before .before .before .before .before .before .before .before .pre .1 .1 .1 .2;
+      height-low = c .before .before .before .before .before .before .before .before .before .before .before .before .before .before .before .pre .1 .1 .1 .2;
+      breaks-low = omega arith;
+    },
+    (
+      c .before .before .before .before .before .before .passes .inv .0,
+      c .before .before .before .before .before .before .passes .inv .1,
+    ),
+  ),
+)
 
 passes-at-enum-told : (t : ℕ) → passes-at-lts.Need-enum-told (
   copy-reads.Asked,
@@ -1706,11 +1966,15 @@ passes-at-returns : (t : ℕ) → passes-at-lts.Need-returns (
   join-locals-reads.Learnt,
 ) (passes-at-at t) passes-at.Post passes-at-Inv-passes passes-at-μ-passes
 unfolding Outcomes.leavingOf
-passes-at-returns t c =
-    (c .before .before .before .before .before .before .before .before .interp-region .ensures .0, c .before .before .before .before .before .before .before .before .interp-region .ensures .1, Cycle.pass-refused (c .before .before .before .before .before .before .before .before .before .before .before .before .before .before .before .before .before .before .before .before .before .before .before .before .args .t .now) (c .before .before .before .before .before .before .before .before .before .before .before .before .before .before .before .before .before .before .before .before .before .before .before .before .args .x) (c .before .before .before .before .before .before .before .before .before .before .before .before .before .before .before .before .before .before .before .before .before .before .before .before .args .ip) (c .before .before .before .before .before .before .before .before .before .before .before .before .before .before .before .before .before .before .before .before .before .before .before .before .args .exit) (at (c .before .before .before .before .before .before .before .before .before .before .before .before .before .before .before .before .before .before .before .before .before .before .before .before .args .height) (c .before .before .before .before .before .before .before .before .before .before .before .before .before .before .before .before .before .before .before .before .before .before .before .before .args .slots .now) (c .before .before .before .before .before .before .before .before .before .before .before .before .before .before .before .before .before .before .before .before .before .before .before .before .args .places .now)) (c .before .before .before .before .before .before .before .before .before .before .before .before .before .before .before .before .before .before .before .before .before .before .before .before .args .heights .now) (c .before .before .before .before .before .before .before .before .before .before .before .before .before .before .before .before .before .before .before .before .before .before .before .before .args .blinds .now) (c .before .before .before .before .before .before .before .before .before .before .before .before .before .before .before .passes .heights) (c .before .before .before .before .before .before .before .before .before .before .before .before .before .before .before .passes .blinds)
-    (at (c .before .before .before .before .before .before .before .before .before .before .before .before .before .before .before .before .before .before .before .before .before .before .before .before .args .height) (c .before .before .before .before .before .before .before .before .before .before .before .before .before .before .before .passes .head) (c .before .before .before .before .before .before .before .before .before .before .before .before .before .before .before .passes .texts)) (c .before .before .before .before .before .before .before .before .before .before .before .before .before .before .before .passes .left) (c .before .before .before .before .before .before .before .before .before .before .before .before .before .before .before .passes .inv .4) (outcomeIn (c .before .before .before .before .before .before .before .before .interp-region .result) (c .before .before .before .before .before .before .before .before .interp-region .last .1 .1 .1 .0) (c .before .before .before .before .before .before .before .before .interp-region .last .1 .1 .1 .1 .0) (c .before .before .before .before .before .before .before .before .interp-region .last .1 .1 .1 .1 .1 .0) (c .before .before .before .before .before .before .before .before .interp-region .last .1 .1 .1 .1 .1 .1 .0)) _ _ (breaksIn (record { pending = Nothing; height = 0 }) (c .before .before .before .before .before .before .before .before .before .before .before .before .before .before .before .passes .broken) (c .before .before .before .before .before .before .before .before .before .before .before .before .before .before .before .passes .held)) refl (c .before .before .before .before .before .before .before .before .interp-region .ensures .2 ∙ ap (λ (z :
-    AnyState). full (Visits.chunkIn (c .before .before .before .before .before .before .before .before .before .before .before .before .before .before .before .before .before .before .before .before .before .before .before .before .args .t .now) (c .before .before .before .before .before .before .before .before .before .before .before .before .before .before .before .before .before .before .before .before .before .before .before .before .args .x)) (c .before .before .before .before .before .before .before .before .before .before .before .before .before .before .before .before .before .before .before .before .before .before .before .before .args .ip + 1) (c .before .before .before .before .before .before .before .before .before .before .before .before .before .before .before .before .before .before .before .before .before .before .before .before .args .exit - 1) (c .before .before .before .before .before .before .before .before .before .before .before .before .before .before .before .before .before .before .before .before .before .before .before .before .args .height) z (Outcomes.breaksOf (c .before .before .before .before .before .before .before .before .before .before .before .before .before .before .before .before .before .before .before .before .before .before .before .before .args .x .locals) (breaksIn (record { pending = Nothing; height = 0 }) (c .before .before .before .before .before .before .before .before .before .before .before .before .before .before .before .passes .broken) (c .before .before .before .before .before .before .before .before .before .before .before .before .before .before .before .passes .held))) (sheetsOf (c .before .before .before .before .before .before .before .before .before .before .before .before .before .before .before .passes .heights)
-    (c .before .before .before .before .before .before .before .before .before .before .before .before .before .before .before .passes .blinds))) (c .before .before .before .before .before .before .before .before .before .before .before .before .before .before .before .passes .inv .3)) (c .before .f .given .1), c .before .before .before .before .before .before .before .before .before .before .before .before .before .before .before .before .before .before .before .before .before .before .before .before .pre .1 .1 .1 .2)
+passes-at-returns t c = (
+  c .before .before .before .before .before .before .before .before .interp-region .ensures .0,
+  c .before .before .before .before .before .before .before .before .interp-region .ensures .1,
+  Cycle.pass-refused (c .before .before .before .before .before .before .before .before .before .before .before .before .before .before .before .before .before .before .before .before .before .before .before .before .args .t .now) (c .before .before .before .before .before .before .before .before .before .before .before .before .before .before .before .before .before .before .before .before .before .before .before .before .args .x) (c .before .before .before .before .before .before .before .before .before .before .before .before .before .before .before .before .before .before .before .before .before .before .before .before .args .ip) (c .before .before .before .before .before .before .before .before .before .before .before .before .before .before .before .before .before .before .before .before .before .before .before .before .args .exit) (at (c .before .before .before .before .before .before .before .before .before .before .before .before .before .before .before .before .before .before .before .before .before .before .before .before .args .height) (c .before .before .before .before .before .before .before .before .before .before .before .before .before .before .before .before .before .before .before .before .before .before .before .before .args .slots .now) (c .before .before .before .before .before .before .before .before .before .before .before .before .before .before .before .before .before .before .before .before .before .before .before .before .args .places .now)) (c .before .before .before .before .before .before .before .before .before .before .before .before .before .before .before .before .before .before .before .before .before .before .before .before .args .heights .now) (c .before .before .before .before .before .before .before .before .before .before .before .before .before .before .before .before .before .before .before .before .before .before .before .before .args .blinds .now) (c .before .before .before .before .before .before .before .before .before .before .before .before .before .before .before .passes .heights) (c .before .before .before .before .before .before .before .before .before .before .before .before .before .before .before .passes .blinds)
+      (at (c .before .before .before .before .before .before .before .before .before .before .before .before .before .before .before .before .before .before .before .before .before .before .before .before .args .height) (c .before .before .before .before .before .before .before .before .before .before .before .before .before .before .before .passes .head) (c .before .before .before .before .before .before .before .before .before .before .before .before .before .before .before .passes .texts)) (c .before .before .before .before .before .before .before .before .before .before .before .before .before .before .before .passes .left) (c .before .before .before .before .before .before .before .before .before .before .before .before .before .before .before .passes .inv .4) (outcomeIn (c .before .before .before .before .before .before .before .before .interp-region .result) (c .before .before .before .before .before .before .before .before .interp-region .last .1 .1 .1 .0) (c .before .before .before .before .before .before .before .before .interp-region .last .1 .1 .1 .1 .0) (c .before .before .before .before .before .before .before .before .interp-region .last .1 .1 .1 .1 .1 .0) (c .before .before .before .before .before .before .before .before .interp-region .last .1 .1 .1 .1 .1 .1 .0)) _ _ (breaksIn (record { pending = Nothing; height = 0 }) (c .before .before .before .before .before .before .before .before .before .before .before .before .before .before .before .passes .broken) (c .before .before .before .before .before .before .before .before .before .before .before .before .before .before .before .passes .held)) refl (c .before .before .before .before .before .before .before .before .interp-region .ensures .2 ∙ ap (λ (z :
+      AnyState). full (Visits.chunkIn (c .before .before .before .before .before .before .before .before .before .before .before .before .before .before .before .before .before .before .before .before .before .before .before .before .args .t .now) (c .before .before .before .before .before .before .before .before .before .before .before .before .before .before .before .before .before .before .before .before .before .before .before .before .args .x)) (c .before .before .before .before .before .before .before .before .before .before .before .before .before .before .before .before .before .before .before .before .before .before .before .before .args .ip + 1) (c .before .before .before .before .before .before .before .before .before .before .before .before .before .before .before .before .before .before .before .before .before .before .before .before .args .exit - 1) (c .before .before .before .before .before .before .before .before .before .before .before .before .before .before .before .before .before .before .before .before .before .before .before .before .args .height) z (Outcomes.breaksOf (c .before .before .before .before .before .before .before .before .before .before .before .before .before .before .before .before .before .before .before .before .before .before .before .before .args .x .locals) (breaksIn (record { pending = Nothing; height = 0 }) (c .before .before .before .before .before .before .before .before .before .before .before .before .before .before .before .passes .broken) (c .before .before .before .before .before .before .before .before .before .before .before .before .before .before .before .passes .held))) (sheetsOf (c .before .before .before .before .before .before .before .before .before .before .before .before .before .before .before .passes .heights)
+      (c .before .before .before .before .before .before .before .before .before .before .before .before .before .before .before .passes .blinds))) (c .before .before .before .before .before .before .before .before .before .before .before .before .before .before .before .passes .inv .3)) (c .before .f .given .1),
+  c .before .before .before .before .before .before .before .before .before .before .before .before .before .before .before .before .before .before .before .before .before .before .before .before .pre .1 .1 .1 .2,
+)
 
 -- src/lib.rt:544:12
 passes-at-same-stack-requires : (t : ℕ) → passes-at-lts.Need-same-stack-requires (
@@ -1825,12 +2089,16 @@ passes-at-returns-2 : (t : ℕ) → passes-at-lts.Need-returns-2 (
   join-locals-reads.Asked,
   join-locals-reads.Learnt,
 ) (passes-at-at t) passes-at.Post passes-at-Inv-passes passes-at-μ-passes
-passes-at-returns-2 t c =
-    (c .before .before .before .before .before .before .before .before .before .before .before .before .before .before .interp-region .ensures .0, c .before .before .before .before .before .before .before .before .before .before .before .before .before .before .interp-region .ensures .1, c .not-neutral .ensures .0 (c .before .before .before .before .before .before .before .before .before .before .before .before .before .before .before .before .before .before .before .before .before .before .before .before .before .before .before .before .before .before .args .x .locals) _ _ _ ∙ Cycle.pass-not-neutral (c .before .before .before .before .before .before .before .before .before .before .before .before .before .before .before .before .before .before .before .before .before .before .before .before .before .before .before .before .before .before .args .t .now) (c .before .before .before .before .before .before .before .before .before .before .before .before .before .before .before .before .before .before .before .before .before .before .before .before .before .before .before .before .before .before .args .x) (c .before .before .before .before .before .before .before .before .before .before .before .before .before .before .before .before .before .before .before .before .before .before .before .before .before .before .before .before .before .before .args .ip) (c .before .before .before .before .before .before .before .before .before .before .before .before .before .before .before .before .before .before .before .before .before .before .before .before .before .before .before .before .before .before .args .exit)
-    (at (c .before .before .before .before .before .before .before .before .before .before .before .before .before .before .before .before .before .before .before .before .before .before .before .before .before .before .before .before .before .before .args .height) (c .before .before .before .before .before .before .before .before .before .before .before .before .before .before .before .before .before .before .before .before .before .before .before .before .before .before .before .before .before .before .args .slots .now) (c .before .before .before .before .before .before .before .before .before .before .before .before .before .before .before .before .before .before .before .before .before .before .before .before .before .before .before .before .before .before .args .places .now)) (c .before .before .before .before .before .before .before .before .before .before .before .before .before .before .before .before .before .before .before .before .before .before .before .before .before .before .before .before .before .before .args .heights .now) (c .before .before .before .before .before .before .before .before .before .before .before .before .before .before .before .before .before .before .before .before .before .before .before .before .before .before .before .before .before .before .args .blinds .now) (c .before .before .before .before .before .before .before .before .before .before .before .before .before .before .before .before .before .before .before .before .before .passes .heights) (c .before .before .before .before .before .before .before .before .before .before .before .before .before .before .before .before .before .before .before .before .before .passes .blinds) (at (c .before .before .before .before .before .before .before .before .before .before .before .before .before .before .before .before .before .before .before .before .before .before .before .before .before .before .before .before .before .before .args .height) (c .before .before .before .before .before .before .before .before .before .before .before .before .before .before .before .before .before .before .before .before .before .passes .head) (c .before .before .before .before .before .before .before .before .before .before .before .before .before .before .before .before .before .before .before .before .before .passes .texts)) (c .before .before .before .before .before .before .before .before .before .before .before .before .before .before .before .before .before .before .before .before .before .passes .left) (c .before .before .before .before .before .before .before .before .before .before .before .before .before .before .before .before .before .before .before .before .before .passes .inv .4) (outcomeIn (c .before .before .before .before .before .before .before .before .before .before .before .before .before .before .interp-region .result) (c .before .before .before .before .before .before .before .before .before .before .before .before .before .before .interp-region .last .1 .1 .1 .0) (c .before .before .before .before .before .before .before .before .before .before .before .before .before .before .interp-region .last .1 .1 .1 .1 .0) (c .before .before .before .before .before .before .before .before .before .before .before .before .before .before .interp-region .last .1 .1 .1 .1 .1 .0) (c .before .before .before .before .before .before .before .before .before .before .before .before .before .before .interp-region .last .1 .1 .1 .1 .1 .1 .0))
-    _ _ (breaksIn (record { pending = Nothing; height = 0 }) (c .before .before .before .before .before .before .before .before .before .before .before .before .before .before .before .before .before .before .before .before .before .passes .broken) (c .before .before .before .before .before .before .before .before .before .before .before .before .before .before .before .before .before .before .before .before .before .passes .held)) refl (c .before .before .before .before .before .before .before .before .before .before .before .before .before .before .interp-region .ensures .2 ∙ ap (λ (z : AnyState). full (Visits.chunkIn (c .before .before .before .before .before .before .before .before .before .before .before .before .before .before .before .before .before .before .before .before .before .before .before .before .before .before .before .before .before .before .args .t .now) (c .before .before .before .before .before .before .before .before .before .before .before .before .before .before .before .before .before .before .before .before .before .before .before .before .before .before .before .before .before .before .args .x)) (c .before .before .before .before .before .before .before .before .before .before .before .before .before .before .before .before .before .before .before .before .before .before .before .before .before .before .before .before .before .before .args .ip + 1) (c .before .before .before .before .before .before .before .before .before .before .before .before .before .before .before .before .before .before .before .before .before .before .before .before .before .before .before .before .before .before .args .exit - 1) (c .before .before .before .before .before .before .before .before .before .before .before .before .before .before .before .before .before .before .before .before .before .before .before .before .before .before .before .before .before .before .args .height) z (Outcomes.breaksOf
-    (c .before .before .before .before .before .before .before .before .before .before .before .before .before .before .before .before .before .before .before .before .before .before .before .before .before .before .before .before .before .before .args .x .locals) (breaksIn (record { pending = Nothing; height = 0 }) (c .before .before .before .before .before .before .before .before .before .before .before .before .before .before .before .before .before .before .before .before .before .passes .broken) (c .before .before .before .before .before .before .before .before .before .before .before .before .before .before .before .before .before .before .before .before .before .passes .held))) (sheetsOf (c .before .before .before .before .before .before .before .before .before .before .before .before .before .before .before .before .before .before .before .before .before .passes .heights) (c .before .before .before .before .before .before .before .before .before .before .before .before .before .before .before .before .before .before .before .before .before .passes .blinds))) (c .before .before .before .before .before .before .before .before .before .before .before .before .before .before .before .before .before .before .before .before .before .passes .inv .3)) (c .before .before .before .before .before .before .before .enum-told .given .1) (sym
-    (c .before .before .same-stack .ensures) ∙ c .before .if1 .left), subst (λ (z : ℕ). z ≤ 64) (sym (c .not-neutral .ensures .1)) (c .before .before .before .before .before .before .before .before .before .before .before .before .before .before .before .before .before .before .before .before .before .before .before .before .before .before .before .before .before .before .pre .1 .1 .1 .2))
+passes-at-returns-2 t c = (
+  c .before .before .before .before .before .before .before .before .before .before .before .before .before .before .interp-region .ensures .0,
+  c .before .before .before .before .before .before .before .before .before .before .before .before .before .before .interp-region .ensures .1,
+  c .not-neutral .ensures .0 (c .before .before .before .before .before .before .before .before .before .before .before .before .before .before .before .before .before .before .before .before .before .before .before .before .before .before .before .before .before .before .args .x .locals) _ _ _ ∙ Cycle.pass-not-neutral (c .before .before .before .before .before .before .before .before .before .before .before .before .before .before .before .before .before .before .before .before .before .before .before .before .before .before .before .before .before .before .args .t .now) (c .before .before .before .before .before .before .before .before .before .before .before .before .before .before .before .before .before .before .before .before .before .before .before .before .before .before .before .before .before .before .args .x) (c .before .before .before .before .before .before .before .before .before .before .before .before .before .before .before .before .before .before .before .before .before .before .before .before .before .before .before .before .before .before .args .ip) (c .before .before .before .before .before .before .before .before .before .before .before .before .before .before .before .before .before .before .before .before .before .before .before .before .before .before .before .before .before .before .args .exit)
+      (at (c .before .before .before .before .before .before .before .before .before .before .before .before .before .before .before .before .before .before .before .before .before .before .before .before .before .before .before .before .before .before .args .height) (c .before .before .before .before .before .before .before .before .before .before .before .before .before .before .before .before .before .before .before .before .before .before .before .before .before .before .before .before .before .before .args .slots .now) (c .before .before .before .before .before .before .before .before .before .before .before .before .before .before .before .before .before .before .before .before .before .before .before .before .before .before .before .before .before .before .args .places .now)) (c .before .before .before .before .before .before .before .before .before .before .before .before .before .before .before .before .before .before .before .before .before .before .before .before .before .before .before .before .before .before .args .heights .now) (c .before .before .before .before .before .before .before .before .before .before .before .before .before .before .before .before .before .before .before .before .before .before .before .before .before .before .before .before .before .before .args .blinds .now) (c .before .before .before .before .before .before .before .before .before .before .before .before .before .before .before .before .before .before .before .before .before .passes .heights) (c .before .before .before .before .before .before .before .before .before .before .before .before .before .before .before .before .before .before .before .before .before .passes .blinds) (at (c .before .before .before .before .before .before .before .before .before .before .before .before .before .before .before .before .before .before .before .before .before .before .before .before .before .before .before .before .before .before .args .height) (c .before .before .before .before .before .before .before .before .before .before .before .before .before .before .before .before .before .before .before .before .before .passes .head) (c .before .before .before .before .before .before .before .before .before .before .before .before .before .before .before .before .before .before .before .before .before .passes .texts)) (c .before .before .before .before .before .before .before .before .before .before .before .before .before .before .before .before .before .before .before .before .before .passes .left) (c .before .before .before .before .before .before .before .before .before .before .before .before .before .before .before .before .before .before .before .before .before .passes .inv .4) (outcomeIn (c .before .before .before .before .before .before .before .before .before .before .before .before .before .before .interp-region .result) (c .before .before .before .before .before .before .before .before .before .before .before .before .before .before .interp-region .last .1 .1 .1 .0) (c .before .before .before .before .before .before .before .before .before .before .before .before .before .before .interp-region .last .1 .1 .1 .1 .0) (c .before .before .before .before .before .before .before .before .before .before .before .before .before .before .interp-region .last .1 .1 .1 .1 .1 .0) (c .before .before .before .before .before .before .before .before .before .before .before .before .before .before .interp-region .last .1 .1 .1 .1 .1 .1 .0))
+      _ _ (breaksIn (record { pending = Nothing; height = 0 }) (c .before .before .before .before .before .before .before .before .before .before .before .before .before .before .before .before .before .before .before .before .before .passes .broken) (c .before .before .before .before .before .before .before .before .before .before .before .before .before .before .before .before .before .before .before .before .before .passes .held)) refl (c .before .before .before .before .before .before .before .before .before .before .before .before .before .before .interp-region .ensures .2 ∙ ap (λ (z : AnyState). full (Visits.chunkIn (c .before .before .before .before .before .before .before .before .before .before .before .before .before .before .before .before .before .before .before .before .before .before .before .before .before .before .before .before .before .before .args .t .now) (c .before .before .before .before .before .before .before .before .before .before .before .before .before .before .before .before .before .before .before .before .before .before .before .before .before .before .before .before .before .before .args .x)) (c .before .before .before .before .before .before .before .before .before .before .before .before .before .before .before .before .before .before .before .before .before .before .before .before .before .before .before .before .before .before .args .ip + 1) (c .before .before .before .before .before .before .before .before .before .before .before .before .before .before .before .before .before .before .before .before .before .before .before .before .before .before .before .before .before .before .args .exit - 1) (c .before .before .before .before .before .before .before .before .before .before .before .before .before .before .before .before .before .before .before .before .before .before .before .before .before .before .before .before .before .before .args .height) z (Outcomes.breaksOf
+      (c .before .before .before .before .before .before .before .before .before .before .before .before .before .before .before .before .before .before .before .before .before .before .before .before .before .before .before .before .before .before .args .x .locals) (breaksIn (record { pending = Nothing; height = 0 }) (c .before .before .before .before .before .before .before .before .before .before .before .before .before .before .before .before .before .before .before .before .before .passes .broken) (c .before .before .before .before .before .before .before .before .before .before .before .before .before .before .before .before .before .before .before .before .before .passes .held))) (sheetsOf (c .before .before .before .before .before .before .before .before .before .before .before .before .before .before .before .before .before .before .before .before .before .passes .heights) (c .before .before .before .before .before .before .before .before .before .before .before .before .before .before .before .before .before .before .before .before .before .passes .blinds))) (c .before .before .before .before .before .before .before .before .before .before .before .before .before .before .before .before .before .before .before .before .before .passes .inv .3)) (c .before .before .before .before .before .before .before .enum-told .given .1) (sym
+      (c .before .before .same-stack .ensures) ∙ c .before .if1 .left),
+  subst (λ (z : ℕ). z ≤ 64) (sym (c .not-neutral .ensures .1)) (c .before .before .before .before .before .before .before .before .before .before .before .before .before .before .before .before .before .before .before .before .before .before .before .before .before .before .before .before .before .before .pre .1 .1 .1 .2),
+)
 
 -- src/lib.rt:547:12
 passes-at-covers-locals-requires : (t : ℕ) → passes-at-lts.Need-covers-locals-requires (
@@ -1899,10 +2167,17 @@ passes-at-last-pass-requires : (t : ℕ) → passes-at-lts.Need-last-pass-requir
   join-locals-reads.Asked,
   join-locals-reads.Learnt,
 ) (passes-at-at t) passes-at.Post passes-at-Inv-passes passes-at-μ-passes
-passes-at-last-pass-requires t c κs =
-    (omega (arith, c .before .before .before .before .before .before .before .before .before .before .before .before .before .before .before .before .before .before .before .before .before .before .before .before .before .before .before .before .before .before .before .before .before .before .before .before .before .before .before .before .before .before .before .before .pre .0, c .before .before .before .before .before .before .before .before .before .before .before .before .before .before .before .before .before .before .before .before .before .before .before .before .before .before .before .before .before .before .before .before .before .before .before .before .before .before .before .before .before .before .before .before .pre .1 .1 .1 .0), (Cycle.placed-by (c .before .before .before .before .before .before .before .before .before .before .before .before .before .before .before .before .before .before .before .before .before .before .before .before .before .before .before .before .before .before .before .before .before .before .before .before .before .before .before .before .before .before .before .before .args .t .now) (c .before .before .before .before .before .before .before .before .before .before .before .before .before .before .before .before .before .before .before .before .before .before .before .before .before .before .before .before .before .before .before .before .before .before .before .before .before .before .before .before .before .before .before .before .args .heights .now) (c .before .before .before .before .before .before .before .before .before .before .before .before .before .before .before .before .before .before .before .before .before .before .before .before .before .before .before .before .before .before .before .before .before .before .before .before .before .before .before .before .before .before .before .before .args .blinds .now) _ _ (c .before .before .before .before .before .before .before .before .before .before .before .before .before .before .before .before .before .before .before .before .before .before .before .before .before .before .before .before .before .before .before .before .before .before .before .before .before .before .before .before .before .before .before .before .args .x) (c .before .before .before .before .before .before .before .before .before .before .before .before .before .before .before .before .before .before .before .before .before .before .before .before .before .before .before .before .interp-region .kept .1 .0 ∙ (c .before .before .before .before .before .before .before .before .before .before .before .before .before .before .before .before .before .before .before .before .before .before .before .before .before .before .before .before .before .before .before .before .before .before .before .passes .inv .4) .heights-same)
-    (c .before .before .before .before .before .before .before .before .before .before .before .before .before .before .before .before .before .before .before .before .before .before .before .before .before .before .before .before .interp-region .kept .1 .1 .0 ∙ (c .before .before .before .before .before .before .before .before .before .before .before .before .before .before .before .before .before .before .before .before .before .before .before .before .before .before .before .before .before .before .before .before .before .before .before .passes .inv .4) .blinds-same) (c .before .before .before .before .before .before .before .before .before .before .before .before .before .before .before .before .before .before .before .before .before .before .before .before .before .before .before .before .before .before .before .before .before .before .before .before .before .before .before .before .before .before .before .before .pre .1 .0), ((c .before .before .before .before .before .before .before .before .before .before .before .before .before .before .before .before .before .before .before .before .before .before .before .before .before .before .before .before .interp-region .ensures .0, c .before .before .before .before .before .before .before .before .before .before .before .before .before .before .before .before .before .before .before .before .before .before .before .before .before .before .before .before .interp-region .ensures .1, c .before .before .before .before .before .before .before .before .before .before .before .before .before .before .before .before .before .before .before .before .before .before .before .before .before .before .before .before .before .before .before .before .before .before .before .passes .inv .2),
-    (c .before .before .before .before .before .before .before .before .before .before .before .before .before .before .before .before .before .before .before .before .before .before .before .before .before .before .before .before .before .before .before .before .before .before .before .before .before .before .before .before .before .before .before .before .pre .1 .1 .1 .0, c .before .before .before .before .before .before .before .before .before .before .before .before .before .before .before .before .before .before .before .before .before .before .before .before .before .before .before .before .before .before .before .before .before .before .before .before .before .before .before .before .before .before .before .before .pre .1 .1 .1 .1, c .before .before .before .before .before .before .before .before .before .before .before .before .before .before .before .before .before .before .before .before .before .before .before .before .before .before .before .before .before .before .before .before .before .before .before .before .before .before .before .before .before .before .before .before .pre .1 .1 .1 .2, c .before .before .before .before .before .before .before .before .before .before .before .before .before .before .before .before .before .before .before .before .before .before .before .before .before .before .before .before .before .before .before .before .before .before .before .before .before .before .before .before .before .before .before .before .pre .1 .1 .1 .2, c .before .before .before .before .before .before .before .before .before .before .before .before .before .before .before .before .before .before .before .before .before .before .before .before .before .before .before .before .before .before .before .before .before .before .before .before .before .before .before .before .before .before .before .before .pre .1 .1 .1 .3))))
+passes-at-last-pass-requires t c κs = (
+  omega (arith, c .before .before .before .before .before .before .before .before .before .before .before .before .before .before .before .before .before .before .before .before .before .before .before .before .before .before .before .before .before .before .before .before .before .before .before .before .before .before .before .before .before .before .before .before .pre .0, c .before .before .before .before .before .before .before .before .before .before .before .before .before .before .before .before .before .before .before .before .before .before .before .before .before .before .before .before .before .before .before .before .before .before .before .before .before .before .before .before .before .before .before .before .pre .1 .1 .1 .0),
+  (
+    Cycle.placed-by (c .before .before .before .before .before .before .before .before .before .before .before .before .before .before .before .before .before .before .before .before .before .before .before .before .before .before .before .before .before .before .before .before .before .before .before .before .before .before .before .before .before .before .before .before .args .t .now) (c .before .before .before .before .before .before .before .before .before .before .before .before .before .before .before .before .before .before .before .before .before .before .before .before .before .before .before .before .before .before .before .before .before .before .before .before .before .before .before .before .before .before .before .before .args .heights .now) (c .before .before .before .before .before .before .before .before .before .before .before .before .before .before .before .before .before .before .before .before .before .before .before .before .before .before .before .before .before .before .before .before .before .before .before .before .before .before .before .before .before .before .before .before .args .blinds .now) _ _ (c .before .before .before .before .before .before .before .before .before .before .before .before .before .before .before .before .before .before .before .before .before .before .before .before .before .before .before .before .before .before .before .before .before .before .before .before .before .before .before .before .before .before .before .before .args .x) (c .before .before .before .before .before .before .before .before .before .before .before .before .before .before .before .before .before .before .before .before .before .before .before .before .before .before .before .before .interp-region .kept .1 .0 ∙ (c .before .before .before .before .before .before .before .before .before .before .before .before .before .before .before .before .before .before .before .before .before .before .before .before .before .before .before .before .before .before .before .before .before .before .before .passes .inv .4) .heights-same)
+        (c .before .before .before .before .before .before .before .before .before .before .before .before .before .before .before .before .before .before .before .before .before .before .before .before .before .before .before .before .interp-region .kept .1 .1 .0 ∙ (c .before .before .before .before .before .before .before .before .before .before .before .before .before .before .before .before .before .before .before .before .before .before .before .before .before .before .before .before .before .before .before .before .before .before .before .passes .inv .4) .blinds-same) (c .before .before .before .before .before .before .before .before .before .before .before .before .before .before .before .before .before .before .before .before .before .before .before .before .before .before .before .before .before .before .before .before .before .before .before .before .before .before .before .before .before .before .before .before .pre .1 .0),
+    (
+      (c .before .before .before .before .before .before .before .before .before .before .before .before .before .before .before .before .before .before .before .before .before .before .before .before .before .before .before .before .interp-region .ensures .0, c .before .before .before .before .before .before .before .before .before .before .before .before .before .before .before .before .before .before .before .before .before .before .before .before .before .before .before .before .interp-region .ensures .1, c .before .before .before .before .before .before .before .before .before .before .before .before .before .before .before .before .before .before .before .before .before .before .before .before .before .before .before .before .before .before .before .before .before .before .before .passes .inv .2),
+      (c .before .before .before .before .before .before .before .before .before .before .before .before .before .before .before .before .before .before .before .before .before .before .before .before .before .before .before .before .before .before .before .before .before .before .before .before .before .before .before .before .before .before .before .before .pre .1 .1 .1 .0, c .before .before .before .before .before .before .before .before .before .before .before .before .before .before .before .before .before .before .before .before .before .before .before .before .before .before .before .before .before .before .before .before .before .before .before .before .before .before .before .before .before .before .before .before .pre .1 .1 .1 .1, c .before .before .before .before .before .before .before .before .before .before .before .before .before .before .before .before .before .before .before .before .before .before .before .before .before .before .before .before .before .before .before .before .before .before .before .before .before .before .before .before .before .before .before .before .pre .1 .1 .1 .2, c .before .before .before .before .before .before .before .before .before .before .before .before .before .before .before .before .before .before .before .before .before .before .before .before .before .before .before .before .before .before .before .before .before .before .before .before .before .before .before .before .before .before .before .before .pre .1 .1 .1 .2, c .before .before .before .before .before .before .before .before .before .before .before .before .before .before .before .before .before .before .before .before .before .before .before .before .before .before .before .before .before .before .before .before .before .before .before .before .before .before .before .before .before .before .before .before .pre .1 .1 .1 .3),
+    ),
+  ),
+)
 
 -- src/lib.rt:568:9
 passes-at-join-locals-requires : (t : ℕ) → passes-at-lts.Need-join-locals-requires (
@@ -2018,13 +2293,18 @@ passes-at-passes-again : (t : ℕ) → passes-at-lts.Need-passes-again (
   join-locals-reads.Learnt,
 ) (passes-at-at t) passes-at.Post passes-at-Inv-passes passes-at-μ-passes
 unfolding covers-all
-passes-at-passes-again t c =
-    (c .copy2 .ensures .0, c .before .before .before .before .before .before .before .before .before .before .before .before .before .before .before .before .before .before .before .before .before .before .before .before .before .before .before .before .before .before .interp-region .ensures .1, c .before .before .before .before .before .join-locals .ensures .0, c .copy2 .ensures .1, Cycle.pass-again (c .before .before .before .before .before .before .before .before .before .before .before .before .before .before .before .before .before .before .before .before .before .before .before .before .before .before .before .before .before .before .before .before .before .before .before .before .before .before .before .before .before .before .before .before .before .before .args .t .now) (c .before .before .before .before .before .before .before .before .before .before .before .before .before .before .before .before .before .before .before .before .before .before .before .before .before .before .before .before .before .before .before .before .before .before .before .before .before .before .before .before .before .before .before .before .before .before .args .x) (c .before .before .before .before .before .before .before .before .before .before .before .before .before .before .before .before .before .before .before .before .before .before .before .before .before .before .before .before .before .before .before .before .before .before .before .before .before .before .before .before .before .before .before .before .before .before .args .ip) (c .before .before .before .before .before .before .before .before .before .before .before .before .before .before .before .before .before .before .before .before .before .before .before .before .before .before .before .before .before .before .before .before .before .before .before .before .before .before .before .before .before .before .before .before .before .before .args .exit) (at (c .before .before .before .before .before .before .before .before .before .before .before .before .before .before .before .before .before .before .before .before .before .before .before .before .before .before .before .before .before .before .before .before .before .before .before .before .before .before .before .before .before .before .before .before .before .before .args .height) (c .before .before .before .before .before .before .before .before .before .before .before .before .before .before .before .before .before .before .before .before .before .before .before .before .before .before .before .before .before .before .before .before .before .before .before .before .before .before .before .before .before .before .before .before .before .before .args .slots .now) (c .before .before .before .before .before .before .before .before .before .before .before .before .before .before .before .before .before .before .before .before .before .before .before .before .before .before .before .before .before .before .before .before .before .before .before .before .before .before .before .before .before .before .before .before .before .before .args .places .now)) (c .before .before .before .before .before .before .before .before .before .before .before .before .before .before .before .before .before .before .before .before .before .before .before .before .before .before .before .before .before .before .before .before .before .before .before .before .before .before .before .before .before .before .before .before .before .before .args .heights .now) (c .before .before .before .before .before .before .before .before .before .before .before .before .before .before .before .before .before .before .before .before .before .before .before .before .before .before .before .before .before .before .before .before .before .before .before .before .before .before .before .before .before .before .before .before .before .before .args .blinds .now)
-    (c .before .before .before .before .before .before .before .before .before .before .before .before .before .before .before .before .before .before .before .before .before .before .before .before .before .before .before .before .before .before .before .before .before .before .before .before .before .passes .heights) (c .before .before .before .before .before .before .before .before .before .before .before .before .before .before .before .before .before .before .before .before .before .before .before .before .before .before .before .before .before .before .before .before .before .before .before .before .before .passes .blinds) (at (c .before .before .before .before .before .before .before .before .before .before .before .before .before .before .before .before .before .before .before .before .before .before .before .before .before .before .before .before .before .before .before .before .before .before .before .before .before .before .before .before .before .before .before .before .before .before .args .height) (c .before .before .before .before .before .before .before .before .before .before .before .before .before .before .before .before .before .before .before .before .before .before .before .before .before .before .before .before .before .before .before .before .before .before .before .before .before .passes .head) (c .before .before .before .before .before .before .before .before .before .before .before .before .before .before .before .before .before .before .before .before .before .before .before .before .before .before .before .before .before .before .before .before .before .before .before .before .before .passes .texts)) (c .before .before .before .before .before .before .before .before .before .before .before .before .before .before .before .before .before .before .before .before .before .before .before .before .before .before .before .before .before .before .before .before .before .before .before .before .before .passes .left) (c .before .before .before .before .before .before .before .before .before .before .before .before .before .before .before .before .before .before .before .before .before .before .before .before .before .before .before .before .before .before .before .before .before .before .before .before .before .passes .inv .4) (outcomeIn (c .before .before .before .before .before .before .before .before .before .before .before .before .before .before .before .before .before .before .before .before .before .before .before .before .before .before .before .before .before .before .interp-region .result) (c .before .before .before .before .before .before .before .before .before .before .before .before .before .before .before .before .before .before .before .before .before .before .before .before .before .before .before .before .before .before .interp-region .last .1 .1 .1 .0) (c .before .before .before .before .before .before .before .before .before .before .before .before .before .before .before .before .before .before .before .before .before .before .before .before .before .before .before .before .before .before .interp-region .last .1 .1 .1 .1 .0) (c .before .before .before .before .before .before .before .before .before .before .before .before .before .before .before .before .before .before .before .before .before .before .before .before .before .before .before .before .before .before .interp-region .last .1 .1 .1 .1 .1 .0) (c .before .before .before .before .before .before .before .before .before .before .before .before .before .before .before .before .before .before .before .before .before .before .before .before .before .before .before .before .before .before .interp-region .last .1 .1 .1 .1 .1 .1 .0)) _ _ (breaksIn (record { pending = Nothing; height = 0 }) (c .before .before .before .before .before .before .before .before .before .before .before .before .before .before .before .before .before .before .before .before .before .before .before .before .before .before .before .before .before .before .before .before .before .before .before .before .before .passes .broken) (c .before .before .before .before .before .before .before .before .before .before .before .before .before .before .before .before .before .before .before .before .before .before .before .before .before .before .before .before .before .before .before .before .before .before .before .before .before .passes .held)) refl
-    (c .before .before .before .before .before .before .before .before .before .before .before .before .before .before .before .before .before .before .before .before .before .before .before .before .before .before .before .before .before .before .interp-region .ensures .2 ∙ ap (λ (z : AnyState). full (Visits.chunkIn (c .before .before .before .before .before .before .before .before .before .before .before .before .before .before .before .before .before .before .before .before .before .before .before .before .before .before .before .before .before .before .before .before .before .before .before .before .before .before .before .before .before .before .before .before .before .before .args .t .now) (c .before .before .before .before .before .before .before .before .before .before .before .before .before .before .before .before .before .before .before .before .before .before .before .before .before .before .before .before .before .before .before .before .before .before .before .before .before .before .before .before .before .before .before .before .before .before .args .x)) (c .before .before .before .before .before .before .before .before .before .before .before .before .before .before .before .before .before .before .before .before .before .before .before .before .before .before .before .before .before .before .before .before .before .before .before .before .before .before .before .before .before .before .before .before .before .before .args .ip + 1) (c .before .before .before .before .before .before .before .before .before .before .before .before .before .before .before .before .before .before .before .before .before .before .before .before .before .before .before .before .before .before .before .before .before .before .before .before .before .before .before .before .before .before .before .before .before .before .args .exit - 1) (c .before .before .before .before .before .before .before .before .before .before .before .before .before .before .before .before .before .before .before .before .before .before .before .before .before .before .before .before .before .before .before .before .before .before .before .before .before .before .before .before .before .before .before .before .before .before .args .height) z (Outcomes.breaksOf (c .before .before .before .before .before .before .before .before .before .before .before .before .before .before .before .before .before .before .before .before .before .before .before .before .before .before .before .before .before .before .before .before .before .before .before .before .before .before .before .before .before .before .before .before .before .before .args .x .locals)
-    (breaksIn (record { pending = Nothing; height = 0 }) (c .before .before .before .before .before .before .before .before .before .before .before .before .before .before .before .before .before .before .before .before .before .before .before .before .before .before .before .before .before .before .before .before .before .before .before .before .before .passes .broken) (c .before .before .before .before .before .before .before .before .before .before .before .before .before .before .before .before .before .before .before .before .before .before .before .before .before .before .before .before .before .before .before .before .before .before .before .before .before .passes .held))) (sheetsOf (c .before .before .before .before .before .before .before .before .before .before .before .before .before .before .before .before .before .before .before .before .before .before .before .before .before .before .before .before .before .before .before .before .before .before .before .before .before .passes .heights) (c .before .before .before .before .before .before .before .before .before .before .before .before .before .before .before .before .before .before .before .before .before .before .before .before .before .before .before .before .before .before .before .before .before .before .before .before .before .passes .blinds))) (c .before .before .before .before .before .before .before .before .before .before .before .before .before .before .before .before .before .before .before .before .before .before .before .before .before .before .before .before .before .before .before .before .before .before .before .before .before .passes .inv .3)) (c .before .before .before .before .before .before .before .before .before .before .before .before .before .before .before .before .before .before .before .before .before .before .before .enum-told .given .1) (sym (c .before .before .before .before .before .before .before .before .before .before .before .before .before .before .before .before .before .before .same-stack .ensures) ∙ c .before .before .before .before .before .before .before .before .before .before .before .before .before .before .before .before .before .if1 .taken)
-    (sym (c .before .before .before .before .before .before .before .before .before .before .before .before .covers-locals .ensures 0 0) ∙ c .before .before .before .before .before .before .before .before .before .before .before .if2 .left) (c .before .before .before .before .before .before .before .before .before .before .if3 .left) (at (c .before .before .before .before .before .before .before .before .before .before .before .before .before .before .before .before .before .before .before .before .before .before .before .before .before .before .before .before .before .before .before .before .before .before .before .before .before .before .before .before .before .before .before .before .before .before .args .height) (c .before .before .before .before .before .join-locals .last .0) (c .before .before .before .before .before .join-locals .last .1 .0)) refl
-    (c .before .before .before .before .before .join-locals .ensures .1 (c .before .before .before .before .before .before .before .before .before .before .before .before .before .before .before .before .before .before .before .before .before .before .before .before .before .before .before .before .before .before .before .before .before .before .before .before .before .before .before .before .before .before .before .before .before .before .args .height) (c .before .before .before .before .before .before .before .before .before .before .before .before .before .before .before .before .before .before .before .before .before .before .before .before .before .before .before .before .before .before .before .before .before .before .before .before .before .before .before .before .before .before .before .before .before .before .pre .1 .1 .1 .2)) (c .before .before .before .before .before .before .before .before .before .before .before .before .before .before .before .before .before .before .before .before .before .before .before .before .before .before .before .before .before .before .interp-region .kept .1 .0) (c .before .before .before .before .before .before .before .before .before .before .before .before .before .before .before .before .before .before .before .before .before .before .before .before .before .before .before .before .before .before .interp-region .kept .1 .1 .0))
+passes-at-passes-again t c = (
+  c .copy2 .ensures .0,
+  c .before .before .before .before .before .before .before .before .before .before .before .before .before .before .before .before .before .before .before .before .before .before .before .before .before .before .before .before .before .before .interp-region .ensures .1,
+  c .before .before .before .before .before .join-locals .ensures .0,
+  c .copy2 .ensures .1,
+  Cycle.pass-again (c .before .before .before .before .before .before .before .before .before .before .before .before .before .before .before .before .before .before .before .before .before .before .before .before .before .before .before .before .before .before .before .before .before .before .before .before .before .before .before .before .before .before .before .before .before .before .args .t .now) (c .before .before .before .before .before .before .before .before .before .before .before .before .before .before .before .before .before .before .before .before .before .before .before .before .before .before .before .before .before .before .before .before .before .before .before .before .before .before .before .before .before .before .before .before .before .before .args .x) (c .before .before .before .before .before .before .before .before .before .before .before .before .before .before .before .before .before .before .before .before .before .before .before .before .before .before .before .before .before .before .before .before .before .before .before .before .before .before .before .before .before .before .before .before .before .before .args .ip) (c .before .before .before .before .before .before .before .before .before .before .before .before .before .before .before .before .before .before .before .before .before .before .before .before .before .before .before .before .before .before .before .before .before .before .before .before .before .before .before .before .before .before .before .before .before .before .args .exit) (at (c .before .before .before .before .before .before .before .before .before .before .before .before .before .before .before .before .before .before .before .before .before .before .before .before .before .before .before .before .before .before .before .before .before .before .before .before .before .before .before .before .before .before .before .before .before .before .args .height) (c .before .before .before .before .before .before .before .before .before .before .before .before .before .before .before .before .before .before .before .before .before .before .before .before .before .before .before .before .before .before .before .before .before .before .before .before .before .before .before .before .before .before .before .before .before .before .args .slots .now) (c .before .before .before .before .before .before .before .before .before .before .before .before .before .before .before .before .before .before .before .before .before .before .before .before .before .before .before .before .before .before .before .before .before .before .before .before .before .before .before .before .before .before .before .before .before .before .args .places .now)) (c .before .before .before .before .before .before .before .before .before .before .before .before .before .before .before .before .before .before .before .before .before .before .before .before .before .before .before .before .before .before .before .before .before .before .before .before .before .before .before .before .before .before .before .before .before .before .args .heights .now) (c .before .before .before .before .before .before .before .before .before .before .before .before .before .before .before .before .before .before .before .before .before .before .before .before .before .before .before .before .before .before .before .before .before .before .before .before .before .before .before .before .before .before .before .before .before .before .args .blinds .now)
+      (c .before .before .before .before .before .before .before .before .before .before .before .before .before .before .before .before .before .before .before .before .before .before .before .before .before .before .before .before .before .before .before .before .before .before .before .before .before .passes .heights) (c .before .before .before .before .before .before .before .before .before .before .before .before .before .before .before .before .before .before .before .before .before .before .before .before .before .before .before .before .before .before .before .before .before .before .before .before .before .passes .blinds) (at (c .before .before .before .before .before .before .before .before .before .before .before .before .before .before .before .before .before .before .before .before .before .before .before .before .before .before .before .before .before .before .before .before .before .before .before .before .before .before .before .before .before .before .before .before .before .before .args .height) (c .before .before .before .before .before .before .before .before .before .before .before .before .before .before .before .before .before .before .before .before .before .before .before .before .before .before .before .before .before .before .before .before .before .before .before .before .before .passes .head) (c .before .before .before .before .before .before .before .before .before .before .before .before .before .before .before .before .before .before .before .before .before .before .before .before .before .before .before .before .before .before .before .before .before .before .before .before .before .passes .texts)) (c .before .before .before .before .before .before .before .before .before .before .before .before .before .before .before .before .before .before .before .before .before .before .before .before .before .before .before .before .before .before .before .before .before .before .before .before .before .passes .left) (c .before .before .before .before .before .before .before .before .before .before .before .before .before .before .before .before .before .before .before .before .before .before .before .before .before .before .before .before .before .before .before .before .before .before .before .before .before .passes .inv .4) (outcomeIn (c .before .before .before .before .before .before .before .before .before .before .before .before .before .before .before .before .before .before .before .before .before .before .before .before .before .before .before .before .before .before .interp-region .result) (c .before .before .before .before .before .before .before .before .before .before .before .before .before .before .before .before .before .before .before .before .before .before .before .before .before .before .before .before .before .before .interp-region .last .1 .1 .1 .0) (c .before .before .before .before .before .before .before .before .before .before .before .before .before .before .before .before .before .before .before .before .before .before .before .before .before .before .before .before .before .before .interp-region .last .1 .1 .1 .1 .0) (c .before .before .before .before .before .before .before .before .before .before .before .before .before .before .before .before .before .before .before .before .before .before .before .before .before .before .before .before .before .before .interp-region .last .1 .1 .1 .1 .1 .0) (c .before .before .before .before .before .before .before .before .before .before .before .before .before .before .before .before .before .before .before .before .before .before .before .before .before .before .before .before .before .before .interp-region .last .1 .1 .1 .1 .1 .1 .0)) _ _ (breaksIn (record { pending = Nothing; height = 0 }) (c .before .before .before .before .before .before .before .before .before .before .before .before .before .before .before .before .before .before .before .before .before .before .before .before .before .before .before .before .before .before .before .before .before .before .before .before .before .passes .broken) (c .before .before .before .before .before .before .before .before .before .before .before .before .before .before .before .before .before .before .before .before .before .before .before .before .before .before .before .before .before .before .before .before .before .before .before .before .before .passes .held)) refl
+      (c .before .before .before .before .before .before .before .before .before .before .before .before .before .before .before .before .before .before .before .before .before .before .before .before .before .before .before .before .before .before .interp-region .ensures .2 ∙ ap (λ (z : AnyState). full (Visits.chunkIn (c .before .before .before .before .before .before .before .before .before .before .before .before .before .before .before .before .before .before .before .before .before .before .before .before .before .before .before .before .before .before .before .before .before .before .before .before .before .before .before .before .before .before .before .before .before .before .args .t .now) (c .before .before .before .before .before .before .before .before .before .before .before .before .before .before .before .before .before .before .before .before .before .before .before .before .before .before .before .before .before .before .before .before .before .before .before .before .before .before .before .before .before .before .before .before .before .before .args .x)) (c .before .before .before .before .before .before .before .before .before .before .before .before .before .before .before .before .before .before .before .before .before .before .before .before .before .before .before .before .before .before .before .before .before .before .before .before .before .before .before .before .before .before .before .before .before .before .args .ip + 1) (c .before .before .before .before .before .before .before .before .before .before .before .before .before .before .before .before .before .before .before .before .before .before .before .before .before .before .before .before .before .before .before .before .before .before .before .before .before .before .before .before .before .before .before .before .before .before .args .exit - 1) (c .before .before .before .before .before .before .before .before .before .before .before .before .before .before .before .before .before .before .before .before .before .before .before .before .before .before .before .before .before .before .before .before .before .before .before .before .before .before .before .before .before .before .before .before .before .before .args .height) z (Outcomes.breaksOf (c .before .before .before .before .before .before .before .before .before .before .before .before .before .before .before .before .before .before .before .before .before .before .before .before .before .before .before .before .before .before .before .before .before .before .before .before .before .before .before .before .before .before .before .before .before .before .args .x .locals)
+      (breaksIn (record { pending = Nothing; height = 0 }) (c .before .before .before .before .before .before .before .before .before .before .before .before .before .before .before .before .before .before .before .before .before .before .before .before .before .before .before .before .before .before .before .before .before .before .before .before .before .passes .broken) (c .before .before .before .before .before .before .before .before .before .before .before .before .before .before .before .before .before .before .before .before .before .before .before .before .before .before .before .before .before .before .before .before .before .before .before .before .before .passes .held))) (sheetsOf (c .before .before .before .before .before .before .before .before .before .before .before .before .before .before .before .before .before .before .before .before .before .before .before .before .before .before .before .before .before .before .before .before .before .before .before .before .before .passes .heights) (c .before .before .before .before .before .before .before .before .before .before .before .before .before .before .before .before .before .before .before .before .before .before .before .before .before .before .before .before .before .before .before .before .before .before .before .before .before .passes .blinds))) (c .before .before .before .before .before .before .before .before .before .before .before .before .before .before .before .before .before .before .before .before .before .before .before .before .before .before .before .before .before .before .before .before .before .before .before .before .before .passes .inv .3)) (c .before .before .before .before .before .before .before .before .before .before .before .before .before .before .before .before .before .before .before .before .before .before .before .enum-told .given .1) (sym (c .before .before .before .before .before .before .before .before .before .before .before .before .before .before .before .before .before .before .same-stack .ensures) ∙ c .before .before .before .before .before .before .before .before .before .before .before .before .before .before .before .before .before .if1 .taken)
+      (sym (c .before .before .before .before .before .before .before .before .before .before .before .before .covers-locals .ensures 0 0) ∙ c .before .before .before .before .before .before .before .before .before .before .before .if2 .left) (c .before .before .before .before .before .before .before .before .before .before .if3 .left) (at (c .before .before .before .before .before .before .before .before .before .before .before .before .before .before .before .before .before .before .before .before .before .before .before .before .before .before .before .before .before .before .before .before .before .before .before .before .before .before .before .before .before .before .before .before .before .before .args .height) (c .before .before .before .before .before .join-locals .last .0) (c .before .before .before .before .before .join-locals .last .1 .0)) refl
+      (c .before .before .before .before .before .join-locals .ensures .1 (c .before .before .before .before .before .before .before .before .before .before .before .before .before .before .before .before .before .before .before .before .before .before .before .before .before .before .before .before .before .before .before .before .before .before .before .before .before .before .before .before .before .before .before .before .before .before .args .height) (c .before .before .before .before .before .before .before .before .before .before .before .before .before .before .before .before .before .before .before .before .before .before .before .before .before .before .before .before .before .before .before .before .before .before .before .before .before .before .before .before .before .before .before .before .before .before .pre .1 .1 .1 .2)) (c .before .before .before .before .before .before .before .before .before .before .before .before .before .before .before .before .before .before .before .before .before .before .before .before .before .before .before .before .before .before .interp-region .kept .1 .0) (c .before .before .before .before .before .before .before .before .before .before .before .before .before .before .before .before .before .before .before .before .before .before .before .before .before .before .before .before .before .before .interp-region .kept .1 .1 .0),
+)
 
 -- src/lib.rt:473:1
 passes-at-same-length-5 : (t : ℕ) → passes-at-lts.Need-same-length-5 (
@@ -2093,11 +2373,15 @@ passes-at-returns-3 : (t : ℕ) → passes-at-lts.Need-returns-3 (
   join-locals-reads.Asked,
   join-locals-reads.Learnt,
 ) (passes-at-at t) passes-at.Post passes-at-Inv-passes passes-at-μ-passes
-passes-at-returns-3 t c =
-    (c .leave-head .ensures .0, c .before .before .before .before .before .before .before .before .before .before .before .before .before .before .interp-region .ensures .1, c .leave-head .ensures .1 _ ∙ Cycle.pass-no-end (c .before .before .before .before .before .before .before .before .before .before .before .before .before .before .before .before .before .before .before .before .before .before .before .before .before .before .before .before .before .before .args .t .now) (c .before .before .before .before .before .before .before .before .before .before .before .before .before .before .before .before .before .before .before .before .before .before .before .before .before .before .before .before .before .before .args .x) (c .before .before .before .before .before .before .before .before .before .before .before .before .before .before .before .before .before .before .before .before .before .before .before .before .before .before .before .before .before .before .args .ip) (c .before .before .before .before .before .before .before .before .before .before .before .before .before .before .before .before .before .before .before .before .before .before .before .before .before .before .before .before .before .before .args .exit) (at (c .before .before .before .before .before .before .before .before .before .before .before .before .before .before .before .before .before .before .before .before .before .before .before .before .before .before .before .before .before .before .args .height) (c .before .before .before .before .before .before .before .before .before .before .before .before .before .before .before .before .before .before .before .before .before .before .before .before .before .before .before .before .before .before .args .slots .now) (c .before .before .before .before .before .before .before .before .before .before .before .before .before .before .before .before .before .before .before .before .before .before .before .before .before .before .before .before .before .before .args .places .now)) (c .before .before .before .before .before .before .before .before .before .before .before .before .before .before .before .before .before .before .before .before .before .before .before .before .before .before .before .before .before .before .args .heights .now) (c .before .before .before .before .before .before .before .before .before .before .before .before .before .before .before .before .before .before .before .before .before .before .before .before .before .before .before .before .before .before .args .blinds .now)
-    (c .before .before .before .before .before .before .before .before .before .before .before .before .before .before .before .before .before .before .before .before .before .passes .heights) (c .before .before .before .before .before .before .before .before .before .before .before .before .before .before .before .before .before .before .before .before .before .passes .blinds) (at (c .before .before .before .before .before .before .before .before .before .before .before .before .before .before .before .before .before .before .before .before .before .before .before .before .before .before .before .before .before .before .args .height) (c .before .before .before .before .before .before .before .before .before .before .before .before .before .before .before .before .before .before .before .before .before .passes .head) (c .before .before .before .before .before .before .before .before .before .before .before .before .before .before .before .before .before .before .before .before .before .passes .texts)) (c .before .before .before .before .before .before .before .before .before .before .before .before .before .before .before .before .before .before .before .before .before .passes .left) (c .before .before .before .before .before .before .before .before .before .before .before .before .before .before .before .before .before .before .before .before .before .passes .inv .4) (outcomeIn (c .before .before .before .before .before .before .before .before .before .before .before .before .before .before .interp-region .result) (c .before .before .before .before .before .before .before .before .before .before .before .before .before .before .interp-region .last .1 .1 .1 .0) (c .before .before .before .before .before .before .before .before .before .before .before .before .before .before .interp-region .last .1 .1 .1 .1 .0) (c .before .before .before .before .before .before .before .before .before .before .before .before .before .before .interp-region .last .1 .1 .1 .1 .1 .0) (c .before .before .before .before .before .before .before .before .before .before .before .before .before .before .interp-region .last .1 .1 .1 .1 .1 .1 .0)) _ _ (breaksIn (record { pending = Nothing; height = 0 }) (c .before .before .before .before .before .before .before .before .before .before .before .before .before .before .before .before .before .before .before .before .before .passes .broken) (c .before .before .before .before .before .before .before .before .before .before .before .before .before .before .before .before .before .before .before .before .before .passes .held)) refl
-    (c .before .before .before .before .before .before .before .before .before .before .before .before .before .before .interp-region .ensures .2 ∙ ap (λ (z : AnyState). full (Visits.chunkIn (c .before .before .before .before .before .before .before .before .before .before .before .before .before .before .before .before .before .before .before .before .before .before .before .before .before .before .before .before .before .before .args .t .now) (c .before .before .before .before .before .before .before .before .before .before .before .before .before .before .before .before .before .before .before .before .before .before .before .before .before .before .before .before .before .before .args .x)) (c .before .before .before .before .before .before .before .before .before .before .before .before .before .before .before .before .before .before .before .before .before .before .before .before .before .before .before .before .before .before .args .ip + 1) (c .before .before .before .before .before .before .before .before .before .before .before .before .before .before .before .before .before .before .before .before .before .before .before .before .before .before .before .before .before .before .args .exit - 1) (c .before .before .before .before .before .before .before .before .before .before .before .before .before .before .before .before .before .before .before .before .before .before .before .before .before .before .before .before .before .before .args .height) z (Outcomes.breaksOf (c .before .before .before .before .before .before .before .before .before .before .before .before .before .before .before .before .before .before .before .before .before .before .before .before .before .before .before .before .before .before .args .x .locals)
-    (breaksIn (record { pending = Nothing; height = 0 }) (c .before .before .before .before .before .before .before .before .before .before .before .before .before .before .before .before .before .before .before .before .before .passes .broken) (c .before .before .before .before .before .before .before .before .before .before .before .before .before .before .before .before .before .before .before .before .before .passes .held))) (sheetsOf (c .before .before .before .before .before .before .before .before .before .before .before .before .before .before .before .before .before .before .before .before .before .passes .heights) (c .before .before .before .before .before .before .before .before .before .before .before .before .before .before .before .before .before .before .before .before .before .passes .blinds))) (c .before .before .before .before .before .before .before .before .before .before .before .before .before .before .before .before .before .before .before .before .before .passes .inv .3)) (c .before .before .before .before .before .before .before .enum-told2 .given .1), c .leave-head .ensures .2)
+passes-at-returns-3 t c = (
+  c .leave-head .ensures .0,
+  c .before .before .before .before .before .before .before .before .before .before .before .before .before .before .interp-region .ensures .1,
+  c .leave-head .ensures .1 _ ∙ Cycle.pass-no-end (c .before .before .before .before .before .before .before .before .before .before .before .before .before .before .before .before .before .before .before .before .before .before .before .before .before .before .before .before .before .before .args .t .now) (c .before .before .before .before .before .before .before .before .before .before .before .before .before .before .before .before .before .before .before .before .before .before .before .before .before .before .before .before .before .before .args .x) (c .before .before .before .before .before .before .before .before .before .before .before .before .before .before .before .before .before .before .before .before .before .before .before .before .before .before .before .before .before .before .args .ip) (c .before .before .before .before .before .before .before .before .before .before .before .before .before .before .before .before .before .before .before .before .before .before .before .before .before .before .before .before .before .before .args .exit) (at (c .before .before .before .before .before .before .before .before .before .before .before .before .before .before .before .before .before .before .before .before .before .before .before .before .before .before .before .before .before .before .args .height) (c .before .before .before .before .before .before .before .before .before .before .before .before .before .before .before .before .before .before .before .before .before .before .before .before .before .before .before .before .before .before .args .slots .now) (c .before .before .before .before .before .before .before .before .before .before .before .before .before .before .before .before .before .before .before .before .before .before .before .before .before .before .before .before .before .before .args .places .now)) (c .before .before .before .before .before .before .before .before .before .before .before .before .before .before .before .before .before .before .before .before .before .before .before .before .before .before .before .before .before .before .args .heights .now) (c .before .before .before .before .before .before .before .before .before .before .before .before .before .before .before .before .before .before .before .before .before .before .before .before .before .before .before .before .before .before .args .blinds .now)
+      (c .before .before .before .before .before .before .before .before .before .before .before .before .before .before .before .before .before .before .before .before .before .passes .heights) (c .before .before .before .before .before .before .before .before .before .before .before .before .before .before .before .before .before .before .before .before .before .passes .blinds) (at (c .before .before .before .before .before .before .before .before .before .before .before .before .before .before .before .before .before .before .before .before .before .before .before .before .before .before .before .before .before .before .args .height) (c .before .before .before .before .before .before .before .before .before .before .before .before .before .before .before .before .before .before .before .before .before .passes .head) (c .before .before .before .before .before .before .before .before .before .before .before .before .before .before .before .before .before .before .before .before .before .passes .texts)) (c .before .before .before .before .before .before .before .before .before .before .before .before .before .before .before .before .before .before .before .before .before .passes .left) (c .before .before .before .before .before .before .before .before .before .before .before .before .before .before .before .before .before .before .before .before .before .passes .inv .4) (outcomeIn (c .before .before .before .before .before .before .before .before .before .before .before .before .before .before .interp-region .result) (c .before .before .before .before .before .before .before .before .before .before .before .before .before .before .interp-region .last .1 .1 .1 .0) (c .before .before .before .before .before .before .before .before .before .before .before .before .before .before .interp-region .last .1 .1 .1 .1 .0) (c .before .before .before .before .before .before .before .before .before .before .before .before .before .before .interp-region .last .1 .1 .1 .1 .1 .0) (c .before .before .before .before .before .before .before .before .before .before .before .before .before .before .interp-region .last .1 .1 .1 .1 .1 .1 .0)) _ _ (breaksIn (record { pending = Nothing; height = 0 }) (c .before .before .before .before .before .before .before .before .before .before .before .before .before .before .before .before .before .before .before .before .before .passes .broken) (c .before .before .before .before .before .before .before .before .before .before .before .before .before .before .before .before .before .before .before .before .before .passes .held)) refl
+      (c .before .before .before .before .before .before .before .before .before .before .before .before .before .before .interp-region .ensures .2 ∙ ap (λ (z : AnyState). full (Visits.chunkIn (c .before .before .before .before .before .before .before .before .before .before .before .before .before .before .before .before .before .before .before .before .before .before .before .before .before .before .before .before .before .before .args .t .now) (c .before .before .before .before .before .before .before .before .before .before .before .before .before .before .before .before .before .before .before .before .before .before .before .before .before .before .before .before .before .before .args .x)) (c .before .before .before .before .before .before .before .before .before .before .before .before .before .before .before .before .before .before .before .before .before .before .before .before .before .before .before .before .before .before .args .ip + 1) (c .before .before .before .before .before .before .before .before .before .before .before .before .before .before .before .before .before .before .before .before .before .before .before .before .before .before .before .before .before .before .args .exit - 1) (c .before .before .before .before .before .before .before .before .before .before .before .before .before .before .before .before .before .before .before .before .before .before .before .before .before .before .before .before .before .before .args .height) z (Outcomes.breaksOf (c .before .before .before .before .before .before .before .before .before .before .before .before .before .before .before .before .before .before .before .before .before .before .before .before .before .before .before .before .before .before .args .x .locals)
+      (breaksIn (record { pending = Nothing; height = 0 }) (c .before .before .before .before .before .before .before .before .before .before .before .before .before .before .before .before .before .before .before .before .before .passes .broken) (c .before .before .before .before .before .before .before .before .before .before .before .before .before .before .before .before .before .before .before .before .before .passes .held))) (sheetsOf (c .before .before .before .before .before .before .before .before .before .before .before .before .before .before .before .before .before .before .before .before .before .passes .heights) (c .before .before .before .before .before .before .before .before .before .before .before .before .before .before .before .before .before .before .before .before .before .passes .blinds))) (c .before .before .before .before .before .before .before .before .before .before .before .before .before .before .before .before .before .before .before .before .before .passes .inv .3)) (c .before .before .before .before .before .before .before .enum-told2 .given .1),
+  c .leave-head .ensures .2,
+)
 
 -- src/lib.rt:473:1
 passes-at-same-length-7 : (t : ℕ) → passes-at-lts.Need-same-length-7 (
@@ -2167,12 +2451,16 @@ passes-at-returns-4 : (t : ℕ) → passes-at-lts.Need-returns-4 (
   join-locals-reads.Learnt,
 ) (passes-at-at t) passes-at.Post passes-at-Inv-passes passes-at-μ-passes
 unfolding covers-all
-passes-at-returns-4 t c =
-    (c .leave-loop .ensures .0, c .before .before .before .before .before .before .before .before .before .before .before .before .before .before .before .before .before .before .before .before .before .before .before .before .interp-region .ensures .1, c .leave-loop .ensures .1 _ ∙ Cycle.pass-stable (c .before .before .before .before .before .before .before .before .before .before .before .before .before .before .before .before .before .before .before .before .before .before .before .before .before .before .before .before .before .before .before .before .before .before .before .before .before .before .before .before .args .t .now) (c .before .before .before .before .before .before .before .before .before .before .before .before .before .before .before .before .before .before .before .before .before .before .before .before .before .before .before .before .before .before .before .before .before .before .before .before .before .before .before .before .args .x) (c .before .before .before .before .before .before .before .before .before .before .before .before .before .before .before .before .before .before .before .before .before .before .before .before .before .before .before .before .before .before .before .before .before .before .before .before .before .before .before .before .args .ip) (c .before .before .before .before .before .before .before .before .before .before .before .before .before .before .before .before .before .before .before .before .before .before .before .before .before .before .before .before .before .before .before .before .before .before .before .before .before .before .before .before .args .exit) (at (c .before .before .before .before .before .before .before .before .before .before .before .before .before .before .before .before .before .before .before .before .before .before .before .before .before .before .before .before .before .before .before .before .before .before .before .before .before .before .before .before .args .height) (c .before .before .before .before .before .before .before .before .before .before .before .before .before .before .before .before .before .before .before .before .before .before .before .before .before .before .before .before .before .before .before .before .before .before .before .before .before .before .before .before .args .slots .now) (c .before .before .before .before .before .before .before .before .before .before .before .before .before .before .before .before .before .before .before .before .before .before .before .before .before .before .before .before .before .before .before .before .before .before .before .before .before .before .before .before .args .places .now)) (c .before .before .before .before .before .before .before .before .before .before .before .before .before .before .before .before .before .before .before .before .before .before .before .before .before .before .before .before .before .before .before .before .before .before .before .before .before .before .before .before .args .heights .now) (c .before .before .before .before .before .before .before .before .before .before .before .before .before .before .before .before .before .before .before .before .before .before .before .before .before .before .before .before .before .before .before .before .before .before .before .before .before .before .before .before .args .blinds .now)
-    (c .before .before .before .before .before .before .before .before .before .before .before .before .before .before .before .before .before .before .before .before .before .before .before .before .before .before .before .before .before .before .before .passes .heights) (c .before .before .before .before .before .before .before .before .before .before .before .before .before .before .before .before .before .before .before .before .before .before .before .before .before .before .before .before .before .before .before .passes .blinds) (at (c .before .before .before .before .before .before .before .before .before .before .before .before .before .before .before .before .before .before .before .before .before .before .before .before .before .before .before .before .before .before .before .before .before .before .before .before .before .before .before .before .args .height) (c .before .before .before .before .before .before .before .before .before .before .before .before .before .before .before .before .before .before .before .before .before .before .before .before .before .before .before .before .before .before .before .passes .head) (c .before .before .before .before .before .before .before .before .before .before .before .before .before .before .before .before .before .before .before .before .before .before .before .before .before .before .before .before .before .before .before .passes .texts)) (c .before .before .before .before .before .before .before .before .before .before .before .before .before .before .before .before .before .before .before .before .before .before .before .before .before .before .before .before .before .before .before .passes .left) (c .before .before .before .before .before .before .before .before .before .before .before .before .before .before .before .before .before .before .before .before .before .before .before .before .before .before .before .before .before .before .before .passes .inv .4) (outcomeIn (c .before .before .before .before .before .before .before .before .before .before .before .before .before .before .before .before .before .before .before .before .before .before .before .before .interp-region .result) (c .before .before .before .before .before .before .before .before .before .before .before .before .before .before .before .before .before .before .before .before .before .before .before .before .interp-region .last .1 .1 .1 .0) (c .before .before .before .before .before .before .before .before .before .before .before .before .before .before .before .before .before .before .before .before .before .before .before .before .interp-region .last .1 .1 .1 .1 .0) (c .before .before .before .before .before .before .before .before .before .before .before .before .before .before .before .before .before .before .before .before .before .before .before .before .interp-region .last .1 .1 .1 .1 .1 .0) (c .before .before .before .before .before .before .before .before .before .before .before .before .before .before .before .before .before .before .before .before .before .before .before .before .interp-region .last .1 .1 .1 .1 .1 .1 .0)) _ _ (breaksIn (record { pending = Nothing; height = 0 }) (c .before .before .before .before .before .before .before .before .before .before .before .before .before .before .before .before .before .before .before .before .before .before .before .before .before .before .before .before .before .before .before .passes .broken) (c .before .before .before .before .before .before .before .before .before .before .before .before .before .before .before .before .before .before .before .before .before .before .before .before .before .before .before .before .before .before .before .passes .held)) refl
-    (c .before .before .before .before .before .before .before .before .before .before .before .before .before .before .before .before .before .before .before .before .before .before .before .before .interp-region .ensures .2 ∙ ap (λ (z : AnyState). full (Visits.chunkIn (c .before .before .before .before .before .before .before .before .before .before .before .before .before .before .before .before .before .before .before .before .before .before .before .before .before .before .before .before .before .before .before .before .before .before .before .before .before .before .before .before .args .t .now) (c .before .before .before .before .before .before .before .before .before .before .before .before .before .before .before .before .before .before .before .before .before .before .before .before .before .before .before .before .before .before .before .before .before .before .before .before .before .before .before .before .args .x)) (c .before .before .before .before .before .before .before .before .before .before .before .before .before .before .before .before .before .before .before .before .before .before .before .before .before .before .before .before .before .before .before .before .before .before .before .before .before .before .before .before .args .ip + 1) (c .before .before .before .before .before .before .before .before .before .before .before .before .before .before .before .before .before .before .before .before .before .before .before .before .before .before .before .before .before .before .before .before .before .before .before .before .before .before .before .before .args .exit - 1) (c .before .before .before .before .before .before .before .before .before .before .before .before .before .before .before .before .before .before .before .before .before .before .before .before .before .before .before .before .before .before .before .before .before .before .before .before .before .before .before .before .args .height) z (Outcomes.breaksOf (c .before .before .before .before .before .before .before .before .before .before .before .before .before .before .before .before .before .before .before .before .before .before .before .before .before .before .before .before .before .before .before .before .before .before .before .before .before .before .before .before .args .x .locals)
-    (breaksIn (record { pending = Nothing; height = 0 }) (c .before .before .before .before .before .before .before .before .before .before .before .before .before .before .before .before .before .before .before .before .before .before .before .before .before .before .before .before .before .before .before .passes .broken) (c .before .before .before .before .before .before .before .before .before .before .before .before .before .before .before .before .before .before .before .before .before .before .before .before .before .before .before .before .before .before .before .passes .held))) (sheetsOf (c .before .before .before .before .before .before .before .before .before .before .before .before .before .before .before .before .before .before .before .before .before .before .before .before .before .before .before .before .before .before .before .passes .heights) (c .before .before .before .before .before .before .before .before .before .before .before .before .before .before .before .before .before .before .before .before .before .before .before .before .before .before .before .before .before .before .before .passes .blinds))) (c .before .before .before .before .before .before .before .before .before .before .before .before .before .before .before .before .before .before .before .before .before .before .before .before .before .before .before .before .before .before .before .passes .inv .3)) (c .before .before .before .before .before .before .before .before .before .before .before .before .before .before .before .before .before .enum-told .given .1) (sym (c .before .before .before .before .before .before .before .before .before .before .before .before .same-stack .ensures) ∙ c .before .before .before .before .before .before .before .before .before .before .before .if1 .taken)
-    (sym (c .before .before .before .before .before .before .covers-locals .ensures 0 0) ∙ c .before .before .before .before .before .if2 .taken), c .leave-loop .ensures .2)
+passes-at-returns-4 t c = (
+  c .leave-loop .ensures .0,
+  c .before .before .before .before .before .before .before .before .before .before .before .before .before .before .before .before .before .before .before .before .before .before .before .before .interp-region .ensures .1,
+  c .leave-loop .ensures .1 _ ∙ Cycle.pass-stable (c .before .before .before .before .before .before .before .before .before .before .before .before .before .before .before .before .before .before .before .before .before .before .before .before .before .before .before .before .before .before .before .before .before .before .before .before .before .before .before .before .args .t .now) (c .before .before .before .before .before .before .before .before .before .before .before .before .before .before .before .before .before .before .before .before .before .before .before .before .before .before .before .before .before .before .before .before .before .before .before .before .before .before .before .before .args .x) (c .before .before .before .before .before .before .before .before .before .before .before .before .before .before .before .before .before .before .before .before .before .before .before .before .before .before .before .before .before .before .before .before .before .before .before .before .before .before .before .before .args .ip) (c .before .before .before .before .before .before .before .before .before .before .before .before .before .before .before .before .before .before .before .before .before .before .before .before .before .before .before .before .before .before .before .before .before .before .before .before .before .before .before .before .args .exit) (at (c .before .before .before .before .before .before .before .before .before .before .before .before .before .before .before .before .before .before .before .before .before .before .before .before .before .before .before .before .before .before .before .before .before .before .before .before .before .before .before .before .args .height) (c .before .before .before .before .before .before .before .before .before .before .before .before .before .before .before .before .before .before .before .before .before .before .before .before .before .before .before .before .before .before .before .before .before .before .before .before .before .before .before .before .args .slots .now) (c .before .before .before .before .before .before .before .before .before .before .before .before .before .before .before .before .before .before .before .before .before .before .before .before .before .before .before .before .before .before .before .before .before .before .before .before .before .before .before .before .args .places .now)) (c .before .before .before .before .before .before .before .before .before .before .before .before .before .before .before .before .before .before .before .before .before .before .before .before .before .before .before .before .before .before .before .before .before .before .before .before .before .before .before .before .args .heights .now) (c .before .before .before .before .before .before .before .before .before .before .before .before .before .before .before .before .before .before .before .before .before .before .before .before .before .before .before .before .before .before .before .before .before .before .before .before .before .before .before .before .args .blinds .now)
+      (c .before .before .before .before .before .before .before .before .before .before .before .before .before .before .before .before .before .before .before .before .before .before .before .before .before .before .before .before .before .before .before .passes .heights) (c .before .before .before .before .before .before .before .before .before .before .before .before .before .before .before .before .before .before .before .before .before .before .before .before .before .before .before .before .before .before .before .passes .blinds) (at (c .before .before .before .before .before .before .before .before .before .before .before .before .before .before .before .before .before .before .before .before .before .before .before .before .before .before .before .before .before .before .before .before .before .before .before .before .before .before .before .before .args .height) (c .before .before .before .before .before .before .before .before .before .before .before .before .before .before .before .before .before .before .before .before .before .before .before .before .before .before .before .before .before .before .before .passes .head) (c .before .before .before .before .before .before .before .before .before .before .before .before .before .before .before .before .before .before .before .before .before .before .before .before .before .before .before .before .before .before .before .passes .texts)) (c .before .before .before .before .before .before .before .before .before .before .before .before .before .before .before .before .before .before .before .before .before .before .before .before .before .before .before .before .before .before .before .passes .left) (c .before .before .before .before .before .before .before .before .before .before .before .before .before .before .before .before .before .before .before .before .before .before .before .before .before .before .before .before .before .before .before .passes .inv .4) (outcomeIn (c .before .before .before .before .before .before .before .before .before .before .before .before .before .before .before .before .before .before .before .before .before .before .before .before .interp-region .result) (c .before .before .before .before .before .before .before .before .before .before .before .before .before .before .before .before .before .before .before .before .before .before .before .before .interp-region .last .1 .1 .1 .0) (c .before .before .before .before .before .before .before .before .before .before .before .before .before .before .before .before .before .before .before .before .before .before .before .before .interp-region .last .1 .1 .1 .1 .0) (c .before .before .before .before .before .before .before .before .before .before .before .before .before .before .before .before .before .before .before .before .before .before .before .before .interp-region .last .1 .1 .1 .1 .1 .0) (c .before .before .before .before .before .before .before .before .before .before .before .before .before .before .before .before .before .before .before .before .before .before .before .before .interp-region .last .1 .1 .1 .1 .1 .1 .0)) _ _ (breaksIn (record { pending = Nothing; height = 0 }) (c .before .before .before .before .before .before .before .before .before .before .before .before .before .before .before .before .before .before .before .before .before .before .before .before .before .before .before .before .before .before .before .passes .broken) (c .before .before .before .before .before .before .before .before .before .before .before .before .before .before .before .before .before .before .before .before .before .before .before .before .before .before .before .before .before .before .before .passes .held)) refl
+      (c .before .before .before .before .before .before .before .before .before .before .before .before .before .before .before .before .before .before .before .before .before .before .before .before .interp-region .ensures .2 ∙ ap (λ (z : AnyState). full (Visits.chunkIn (c .before .before .before .before .before .before .before .before .before .before .before .before .before .before .before .before .before .before .before .before .before .before .before .before .before .before .before .before .before .before .before .before .before .before .before .before .before .before .before .before .args .t .now) (c .before .before .before .before .before .before .before .before .before .before .before .before .before .before .before .before .before .before .before .before .before .before .before .before .before .before .before .before .before .before .before .before .before .before .before .before .before .before .before .before .args .x)) (c .before .before .before .before .before .before .before .before .before .before .before .before .before .before .before .before .before .before .before .before .before .before .before .before .before .before .before .before .before .before .before .before .before .before .before .before .before .before .before .before .args .ip + 1) (c .before .before .before .before .before .before .before .before .before .before .before .before .before .before .before .before .before .before .before .before .before .before .before .before .before .before .before .before .before .before .before .before .before .before .before .before .before .before .before .before .args .exit - 1) (c .before .before .before .before .before .before .before .before .before .before .before .before .before .before .before .before .before .before .before .before .before .before .before .before .before .before .before .before .before .before .before .before .before .before .before .before .before .before .before .before .args .height) z (Outcomes.breaksOf (c .before .before .before .before .before .before .before .before .before .before .before .before .before .before .before .before .before .before .before .before .before .before .before .before .before .before .before .before .before .before .before .before .before .before .before .before .before .before .before .before .args .x .locals)
+      (breaksIn (record { pending = Nothing; height = 0 }) (c .before .before .before .before .before .before .before .before .before .before .before .before .before .before .before .before .before .before .before .before .before .before .before .before .before .before .before .before .before .before .before .passes .broken) (c .before .before .before .before .before .before .before .before .before .before .before .before .before .before .before .before .before .before .before .before .before .before .before .before .before .before .before .before .before .before .before .passes .held))) (sheetsOf (c .before .before .before .before .before .before .before .before .before .before .before .before .before .before .before .before .before .before .before .before .before .before .before .before .before .before .before .before .before .before .before .passes .heights) (c .before .before .before .before .before .before .before .before .before .before .before .before .before .before .before .before .before .before .before .before .before .before .before .before .before .before .before .before .before .before .before .passes .blinds))) (c .before .before .before .before .before .before .before .before .before .before .before .before .before .before .before .before .before .before .before .before .before .before .before .before .before .before .before .before .before .before .before .passes .inv .3)) (c .before .before .before .before .before .before .before .before .before .before .before .before .before .before .before .before .before .enum-told .given .1) (sym (c .before .before .before .before .before .before .before .before .before .before .before .before .same-stack .ensures) ∙ c .before .before .before .before .before .before .before .before .before .before .before .if1 .taken)
+      (sym (c .before .before .before .before .before .before .covers-locals .ensures 0 0) ∙ c .before .before .before .before .before .if2 .taken),
+  c .leave-loop .ensures .2,
+)
 
 -- src/lib.rt:473:1
 passes-at-same-length-9 : (t : ℕ) → passes-at-lts.Need-same-length-9 (
@@ -2242,12 +2530,16 @@ passes-at-returns-5 : (t : ℕ) → passes-at-lts.Need-returns-5 (
   join-locals-reads.Learnt,
 ) (passes-at-at t) passes-at.Post passes-at-Inv-passes passes-at-μ-passes
 unfolding covers-all
-passes-at-returns-5 t c =
-    (c .before .before .before .before .last-pass .ensures .0, c .before .before .before .before .last-pass .ensures .1, c .before .before .before .before .last-pass .ensures .3 ∙ Cycle.pass-last (c .before .before .before .before .before .before .before .before .before .before .before .before .before .before .before .before .before .before .before .before .before .before .before .before .before .before .before .before .before .before .before .before .before .before .before .before .before .before .before .before .before .before .before .before .before .before .before .before .before .args .t .now) (c .before .before .before .before .before .before .before .before .before .before .before .before .before .before .before .before .before .before .before .before .before .before .before .before .before .before .before .before .before .before .before .before .before .before .before .before .before .before .before .before .before .before .before .before .before .before .before .before .before .args .x) (c .before .before .before .before .before .before .before .before .before .before .before .before .before .before .before .before .before .before .before .before .before .before .before .before .before .before .before .before .before .before .before .before .before .before .before .before .before .before .before .before .before .before .before .before .before .before .before .before .before .args .ip) (c .before .before .before .before .before .before .before .before .before .before .before .before .before .before .before .before .before .before .before .before .before .before .before .before .before .before .before .before .before .before .before .before .before .before .before .before .before .before .before .before .before .before .before .before .before .before .before .before .before .args .exit) (at (c .before .before .before .before .before .before .before .before .before .before .before .before .before .before .before .before .before .before .before .before .before .before .before .before .before .before .before .before .before .before .before .before .before .before .before .before .before .before .before .before .before .before .before .before .before .before .before .before .before .args .height) (c .before .before .before .before .before .before .before .before .before .before .before .before .before .before .before .before .before .before .before .before .before .before .before .before .before .before .before .before .before .before .before .before .before .before .before .before .before .before .before .before .before .before .before .before .before .before .before .before .before .args .slots .now) (c .before .before .before .before .before .before .before .before .before .before .before .before .before .before .before .before .before .before .before .before .before .before .before .before .before .before .before .before .before .before .before .before .before .before .before .before .before .before .before .before .before .before .before .before .before .before .before .before .before .args .places .now)) (c .before .before .before .before .before .before .before .before .before .before .before .before .before .before .before .before .before .before .before .before .before .before .before .before .before .before .before .before .before .before .before .before .before .before .before .before .before .before .before .before .before .before .before .before .before .before .before .before .before .args .heights .now) (c .before .before .before .before .before .before .before .before .before .before .before .before .before .before .before .before .before .before .before .before .before .before .before .before .before .before .before .before .before .before .before .before .before .before .before .before .before .before .before .before .before .before .before .before .before .before .before .before .before .args .blinds .now) (c .before .before .before .before .before .before .before .before .before .before .before .before .before .before .before .before .before .before .before .before .before .before .before .before .before .before .before .before .before .before .before .before .before .before .before .before .before .before .before .before .passes .heights)
-    (c .before .before .before .before .before .before .before .before .before .before .before .before .before .before .before .before .before .before .before .before .before .before .before .before .before .before .before .before .before .before .before .before .before .before .before .before .before .before .before .before .passes .blinds) (at (c .before .before .before .before .before .before .before .before .before .before .before .before .before .before .before .before .before .before .before .before .before .before .before .before .before .before .before .before .before .before .before .before .before .before .before .before .before .before .before .before .before .before .before .before .before .before .before .before .before .args .height) (c .before .before .before .before .before .before .before .before .before .before .before .before .before .before .before .before .before .before .before .before .before .before .before .before .before .before .before .before .before .before .before .before .before .before .before .before .before .before .before .before .passes .head) (c .before .before .before .before .before .before .before .before .before .before .before .before .before .before .before .before .before .before .before .before .before .before .before .before .before .before .before .before .before .before .before .before .before .before .before .before .before .before .before .before .passes .texts)) (c .before .before .before .before .before .before .before .before .before .before .before .before .before .before .before .before .before .before .before .before .before .before .before .before .before .before .before .before .before .before .before .before .before .before .before .before .before .before .before .before .passes .left) (c .before .before .before .before .before .before .before .before .before .before .before .before .before .before .before .before .before .before .before .before .before .before .before .before .before .before .before .before .before .before .before .before .before .before .before .before .before .before .before .before .passes .inv .4) (outcomeIn (c .before .before .before .before .before .before .before .before .before .before .before .before .before .before .before .before .before .before .before .before .before .before .before .before .before .before .before .before .before .before .before .before .before .interp-region .result) (c .before .before .before .before .before .before .before .before .before .before .before .before .before .before .before .before .before .before .before .before .before .before .before .before .before .before .before .before .before .before .before .before .before .interp-region .last .1 .1 .1 .0) (c .before .before .before .before .before .before .before .before .before .before .before .before .before .before .before .before .before .before .before .before .before .before .before .before .before .before .before .before .before .before .before .before .before .interp-region .last .1 .1 .1 .1 .0) (c .before .before .before .before .before .before .before .before .before .before .before .before .before .before .before .before .before .before .before .before .before .before .before .before .before .before .before .before .before .before .before .before .before .interp-region .last .1 .1 .1 .1 .1 .0) (c .before .before .before .before .before .before .before .before .before .before .before .before .before .before .before .before .before .before .before .before .before .before .before .before .before .before .before .before .before .before .before .before .before .interp-region .last .1 .1 .1 .1 .1 .1 .0)) _ _ (breaksIn (record { pending = Nothing; height = 0 }) (c .before .before .before .before .before .before .before .before .before .before .before .before .before .before .before .before .before .before .before .before .before .before .before .before .before .before .before .before .before .before .before .before .before .before .before .before .before .before .before .before .passes .broken) (c .before .before .before .before .before .before .before .before .before .before .before .before .before .before .before .before .before .before .before .before .before .before .before .before .before .before .before .before .before .before .before .before .before .before .before .before .before .before .before .before .passes .held)) refl
-    (c .before .before .before .before .before .before .before .before .before .before .before .before .before .before .before .before .before .before .before .before .before .before .before .before .before .before .before .before .before .before .before .before .before .interp-region .ensures .2 ∙ ap (λ (z : AnyState). full (Visits.chunkIn (c .before .before .before .before .before .before .before .before .before .before .before .before .before .before .before .before .before .before .before .before .before .before .before .before .before .before .before .before .before .before .before .before .before .before .before .before .before .before .before .before .before .before .before .before .before .before .before .before .before .args .t .now) (c .before .before .before .before .before .before .before .before .before .before .before .before .before .before .before .before .before .before .before .before .before .before .before .before .before .before .before .before .before .before .before .before .before .before .before .before .before .before .before .before .before .before .before .before .before .before .before .before .before .args .x)) (c .before .before .before .before .before .before .before .before .before .before .before .before .before .before .before .before .before .before .before .before .before .before .before .before .before .before .before .before .before .before .before .before .before .before .before .before .before .before .before .before .before .before .before .before .before .before .before .before .before .args .ip + 1) (c .before .before .before .before .before .before .before .before .before .before .before .before .before .before .before .before .before .before .before .before .before .before .before .before .before .before .before .before .before .before .before .before .before .before .before .before .before .before .before .before .before .before .before .before .before .before .before .before .before .args .exit - 1) (c .before .before .before .before .before .before .before .before .before .before .before .before .before .before .before .before .before .before .before .before .before .before .before .before .before .before .before .before .before .before .before .before .before .before .before .before .before .before .before .before .before .before .before .before .before .before .before .before .before .args .height) z (Outcomes.breaksOf (c .before .before .before .before .before .before .before .before .before .before .before .before .before .before .before .before .before .before .before .before .before .before .before .before .before .before .before .before .before .before .before .before .before .before .before .before .before .before .before .before .before .before .before .before .before .before .before .before .before .args .x .locals)
-    (breaksIn (record { pending = Nothing; height = 0 }) (c .before .before .before .before .before .before .before .before .before .before .before .before .before .before .before .before .before .before .before .before .before .before .before .before .before .before .before .before .before .before .before .before .before .before .before .before .before .before .before .before .passes .broken) (c .before .before .before .before .before .before .before .before .before .before .before .before .before .before .before .before .before .before .before .before .before .before .before .before .before .before .before .before .before .before .before .before .before .before .before .before .before .before .before .before .passes .held))) (sheetsOf (c .before .before .before .before .before .before .before .before .before .before .before .before .before .before .before .before .before .before .before .before .before .before .before .before .before .before .before .before .before .before .before .before .before .before .before .before .before .before .before .before .passes .heights) (c .before .before .before .before .before .before .before .before .before .before .before .before .before .before .before .before .before .before .before .before .before .before .before .before .before .before .before .before .before .before .before .before .before .before .before .before .before .before .before .before .passes .blinds))) (c .before .before .before .before .before .before .before .before .before .before .before .before .before .before .before .before .before .before .before .before .before .before .before .before .before .before .before .before .before .before .before .before .before .before .before .before .before .before .before .before .passes .inv .3)) (c .before .before .before .before .before .before .before .before .before .before .before .before .before .before .before .before .before .before .before .before .before .before .before .before .before .before .enum-told .given .1) (sym (c .before .before .before .before .before .before .before .before .before .before .before .before .before .before .before .before .before .before .before .before .before .same-stack .ensures) ∙ c .before .before .before .before .before .before .before .before .before .before .before .before .before .before .before .before .before .before .before .before .if1 .taken)
-    (sym (c .before .before .before .before .before .before .before .before .before .before .before .before .before .before .before .covers-locals .ensures 0 0) ∙ c .before .before .before .before .before .before .before .before .before .before .before .before .before .before .if2 .left) (c .before .before .before .before .before .before .before .before .before .before .before .before .before .if3 .taken), c .before .before .before .before .last-pass .ensures .4)
+passes-at-returns-5 t c = (
+  c .before .before .before .before .last-pass .ensures .0,
+  c .before .before .before .before .last-pass .ensures .1,
+  c .before .before .before .before .last-pass .ensures .3 ∙ Cycle.pass-last (c .before .before .before .before .before .before .before .before .before .before .before .before .before .before .before .before .before .before .before .before .before .before .before .before .before .before .before .before .before .before .before .before .before .before .before .before .before .before .before .before .before .before .before .before .before .before .before .before .before .args .t .now) (c .before .before .before .before .before .before .before .before .before .before .before .before .before .before .before .before .before .before .before .before .before .before .before .before .before .before .before .before .before .before .before .before .before .before .before .before .before .before .before .before .before .before .before .before .before .before .before .before .before .args .x) (c .before .before .before .before .before .before .before .before .before .before .before .before .before .before .before .before .before .before .before .before .before .before .before .before .before .before .before .before .before .before .before .before .before .before .before .before .before .before .before .before .before .before .before .before .before .before .before .before .before .args .ip) (c .before .before .before .before .before .before .before .before .before .before .before .before .before .before .before .before .before .before .before .before .before .before .before .before .before .before .before .before .before .before .before .before .before .before .before .before .before .before .before .before .before .before .before .before .before .before .before .before .before .args .exit) (at (c .before .before .before .before .before .before .before .before .before .before .before .before .before .before .before .before .before .before .before .before .before .before .before .before .before .before .before .before .before .before .before .before .before .before .before .before .before .before .before .before .before .before .before .before .before .before .before .before .before .args .height) (c .before .before .before .before .before .before .before .before .before .before .before .before .before .before .before .before .before .before .before .before .before .before .before .before .before .before .before .before .before .before .before .before .before .before .before .before .before .before .before .before .before .before .before .before .before .before .before .before .before .args .slots .now) (c .before .before .before .before .before .before .before .before .before .before .before .before .before .before .before .before .before .before .before .before .before .before .before .before .before .before .before .before .before .before .before .before .before .before .before .before .before .before .before .before .before .before .before .before .before .before .before .before .before .args .places .now)) (c .before .before .before .before .before .before .before .before .before .before .before .before .before .before .before .before .before .before .before .before .before .before .before .before .before .before .before .before .before .before .before .before .before .before .before .before .before .before .before .before .before .before .before .before .before .before .before .before .before .args .heights .now) (c .before .before .before .before .before .before .before .before .before .before .before .before .before .before .before .before .before .before .before .before .before .before .before .before .before .before .before .before .before .before .before .before .before .before .before .before .before .before .before .before .before .before .before .before .before .before .before .before .before .args .blinds .now) (c .before .before .before .before .before .before .before .before .before .before .before .before .before .before .before .before .before .before .before .before .before .before .before .before .before .before .before .before .before .before .before .before .before .before .before .before .before .before .before .before .passes .heights)
+      (c .before .before .before .before .before .before .before .before .before .before .before .before .before .before .before .before .before .before .before .before .before .before .before .before .before .before .before .before .before .before .before .before .before .before .before .before .before .before .before .before .passes .blinds) (at (c .before .before .before .before .before .before .before .before .before .before .before .before .before .before .before .before .before .before .before .before .before .before .before .before .before .before .before .before .before .before .before .before .before .before .before .before .before .before .before .before .before .before .before .before .before .before .before .before .before .args .height) (c .before .before .before .before .before .before .before .before .before .before .before .before .before .before .before .before .before .before .before .before .before .before .before .before .before .before .before .before .before .before .before .before .before .before .before .before .before .before .before .before .passes .head) (c .before .before .before .before .before .before .before .before .before .before .before .before .before .before .before .before .before .before .before .before .before .before .before .before .before .before .before .before .before .before .before .before .before .before .before .before .before .before .before .before .passes .texts)) (c .before .before .before .before .before .before .before .before .before .before .before .before .before .before .before .before .before .before .before .before .before .before .before .before .before .before .before .before .before .before .before .before .before .before .before .before .before .before .before .before .passes .left) (c .before .before .before .before .before .before .before .before .before .before .before .before .before .before .before .before .before .before .before .before .before .before .before .before .before .before .before .before .before .before .before .before .before .before .before .before .before .before .before .before .passes .inv .4) (outcomeIn (c .before .before .before .before .before .before .before .before .before .before .before .before .before .before .before .before .before .before .before .before .before .before .before .before .before .before .before .before .before .before .before .before .before .interp-region .result) (c .before .before .before .before .before .before .before .before .before .before .before .before .before .before .before .before .before .before .before .before .before .before .before .before .before .before .before .before .before .before .before .before .before .interp-region .last .1 .1 .1 .0) (c .before .before .before .before .before .before .before .before .before .before .before .before .before .before .before .before .before .before .before .before .before .before .before .before .before .before .before .before .before .before .before .before .before .interp-region .last .1 .1 .1 .1 .0) (c .before .before .before .before .before .before .before .before .before .before .before .before .before .before .before .before .before .before .before .before .before .before .before .before .before .before .before .before .before .before .before .before .before .interp-region .last .1 .1 .1 .1 .1 .0) (c .before .before .before .before .before .before .before .before .before .before .before .before .before .before .before .before .before .before .before .before .before .before .before .before .before .before .before .before .before .before .before .before .before .interp-region .last .1 .1 .1 .1 .1 .1 .0)) _ _ (breaksIn (record { pending = Nothing; height = 0 }) (c .before .before .before .before .before .before .before .before .before .before .before .before .before .before .before .before .before .before .before .before .before .before .before .before .before .before .before .before .before .before .before .before .before .before .before .before .before .before .before .before .passes .broken) (c .before .before .before .before .before .before .before .before .before .before .before .before .before .before .before .before .before .before .before .before .before .before .before .before .before .before .before .before .before .before .before .before .before .before .before .before .before .before .before .before .passes .held)) refl
+      (c .before .before .before .before .before .before .before .before .before .before .before .before .before .before .before .before .before .before .before .before .before .before .before .before .before .before .before .before .before .before .before .before .before .interp-region .ensures .2 ∙ ap (λ (z : AnyState). full (Visits.chunkIn (c .before .before .before .before .before .before .before .before .before .before .before .before .before .before .before .before .before .before .before .before .before .before .before .before .before .before .before .before .before .before .before .before .before .before .before .before .before .before .before .before .before .before .before .before .before .before .before .before .before .args .t .now) (c .before .before .before .before .before .before .before .before .before .before .before .before .before .before .before .before .before .before .before .before .before .before .before .before .before .before .before .before .before .before .before .before .before .before .before .before .before .before .before .before .before .before .before .before .before .before .before .before .before .args .x)) (c .before .before .before .before .before .before .before .before .before .before .before .before .before .before .before .before .before .before .before .before .before .before .before .before .before .before .before .before .before .before .before .before .before .before .before .before .before .before .before .before .before .before .before .before .before .before .before .before .before .args .ip + 1) (c .before .before .before .before .before .before .before .before .before .before .before .before .before .before .before .before .before .before .before .before .before .before .before .before .before .before .before .before .before .before .before .before .before .before .before .before .before .before .before .before .before .before .before .before .before .before .before .before .before .args .exit - 1) (c .before .before .before .before .before .before .before .before .before .before .before .before .before .before .before .before .before .before .before .before .before .before .before .before .before .before .before .before .before .before .before .before .before .before .before .before .before .before .before .before .before .before .before .before .before .before .before .before .before .args .height) z (Outcomes.breaksOf (c .before .before .before .before .before .before .before .before .before .before .before .before .before .before .before .before .before .before .before .before .before .before .before .before .before .before .before .before .before .before .before .before .before .before .before .before .before .before .before .before .before .before .before .before .before .before .before .before .before .args .x .locals)
+      (breaksIn (record { pending = Nothing; height = 0 }) (c .before .before .before .before .before .before .before .before .before .before .before .before .before .before .before .before .before .before .before .before .before .before .before .before .before .before .before .before .before .before .before .before .before .before .before .before .before .before .before .before .passes .broken) (c .before .before .before .before .before .before .before .before .before .before .before .before .before .before .before .before .before .before .before .before .before .before .before .before .before .before .before .before .before .before .before .before .before .before .before .before .before .before .before .before .passes .held))) (sheetsOf (c .before .before .before .before .before .before .before .before .before .before .before .before .before .before .before .before .before .before .before .before .before .before .before .before .before .before .before .before .before .before .before .before .before .before .before .before .before .before .before .before .passes .heights) (c .before .before .before .before .before .before .before .before .before .before .before .before .before .before .before .before .before .before .before .before .before .before .before .before .before .before .before .before .before .before .before .before .before .before .before .before .before .before .before .before .passes .blinds))) (c .before .before .before .before .before .before .before .before .before .before .before .before .before .before .before .before .before .before .before .before .before .before .before .before .before .before .before .before .before .before .before .before .before .before .before .before .before .before .before .before .passes .inv .3)) (c .before .before .before .before .before .before .before .before .before .before .before .before .before .before .before .before .before .before .before .before .before .before .before .before .before .before .enum-told .given .1) (sym (c .before .before .before .before .before .before .before .before .before .before .before .before .before .before .before .before .before .before .before .before .before .same-stack .ensures) ∙ c .before .before .before .before .before .before .before .before .before .before .before .before .before .before .before .before .before .before .before .before .if1 .taken)
+      (sym (c .before .before .before .before .before .before .before .before .before .before .before .before .before .before .before .covers-locals .ensures 0 0) ∙ c .before .before .before .before .before .before .before .before .before .before .before .before .before .before .if2 .left) (c .before .before .before .before .before .before .before .before .before .before .before .before .before .if3 .taken),
+  c .before .before .before .before .last-pass .ensures .4,
+)
 
 -- src/lib.rt:364:5
 two-arms-copy-requires : (t : ℕ) → two-arms-lts.Need-copy-requires (
@@ -2292,9 +2584,29 @@ two-arms-interp-region-requires : (t : ℕ) → two-arms-lts.Need-interp-region-
   join-ends-reads.Learnt,
 ) (two-arms-at t) two-arms.Post
 two-arms-interp-region-requires t c κs =
-    let q = Cycle.two-arms-in (c .before .before .before .before .before .before .before .before .before .before .before .before .before .before .args .t .now) (c .before .before .before .before .before .before .before .before .before .before .before .before .before .before .args .heights .now) (c .before .before .before .before .before .before .before .before .before .before .before .before .before .before .args .blinds .now) (c .before .before .before .before .before .before .before .before .before .before .before .before .before .before .args .x) (c .before .before .before .before .before .before .before .before .before .before .before .before .before .before .args .target) (c .before .before .before .before .before .before .before .before .before .before .before .before .before .before .args .ip) (c .before .before .before .before .before .before .before .before .before .before .before .before .before .before .args .end) (c .before .before .before .before .before .before .before .before .before .before .before .before .before .before .args .floor) _ _ (c .before .before .before .before .before .before .before .before .before .before .before .before .before .before .pre .1 .0) (c .before .before .before .before .before .before .before .before .before .before .before .before .before .before .pre .1 .1 .1 .0) (c .before .before .before .before .before .before .before .before .before .before .before .before .before .before .pre .1 .1 .1 .1) (c .before .before .before .before .before .before .before .before .before .before .before .before .before .before .args .closer) (c .before .before .before .before .before .before .before .before .before .before .before .before .before .before .pre .1 .1 .1 .2) in (omega (arith, q .0,
-    q .1, q .2, c .before .before .before .before .before .before .before .before .before .before .before .before .before .before .pre .0), (record { placed = c .before .before .before .before .before .before .before .before .before .before .before .before .before .before .pre .1 .0 .placed; from = c .before .before .before .before .before .before .before .before .before .before .before .before .before .before .args .ip + 1; arm = q .3; after = omega arith; before = omega (arith, q .0); floor-low =
-    c .before .before .before .before .before .before .before .before .before .before .before .before .before .before .pre .1 .0 .floor-low; height-low = c .before .before .before .before .before .before .before .before .before .before .before .before .before .before .pre .1 .0 .height-low; breaks-low = c .before .before .before .before .before .before .before .before .before .before .before .before .before .before .pre .1 .0 .breaks-low }, c .before .before .before .before .before .before .before .before .before .before .before .before .before .before .pre .1 .1 .0))
+    let q = Cycle.two-arms-in (c .before .before .before .before .before .before .before .before .before .before .before .before .before .before .args .t .now) (c .before .before .before .before .before .before .before .before .before .before .before .before .before .before .args .heights .now) (c .before .before .before .before .before .before .before .before .before .before .before .before .before .before .args .blinds .now) (c .before .before .before .before .before .before .before .before .before .before .before .before .before .before .args .x) (c .before .before .before .before .before .before .before .before .before .before .before .before .before .before .args .target) (c .before .before .before .before .before .before .before .before .before .before .before .before .before .before .args .ip) (c .before .before .before .before .before .before .before .before .before .before .before .before .before .before .args .end) (c .before .before .before .before .before .before .before .before .before .before .before .before .before .before .args .floor) _ _ (c .before .before .before .before .before .before .before .before .before .before .before .before .before .before .pre .1 .0) (c .before .before .before .before .before .before .before .before .before .before .before .before .before .before .pre .1 .1 .1 .0) (c .before .before .before .before .before .before .before .before .before .before .before .before .before .before .pre .1 .1 .1 .1) (c .before .before .before .before .before .before .before .before .before .before .before .before .before .before .args .closer) (c .before .before .before .before .before .before .before .before .before .before .before .before .before .before .pre .1 .1 .1 .2) in (
+      omega (
+        arith,
+        q .0,
+        q .1,
+        q .2,
+        c .before .before .before .before .before .before .before .before .before .before .before .before .before .before .pre .0,
+      ),
+      (
+        record {
+          placed = c .before .before .before .before .before .before .before .before .before .before .before .before .before .before .pre .1 .0 .placed;
+          from = c .before .before .before .before .before .before .before .before .before .before .before .before .before .before .args .ip + 1;
+          arm = q .3;
+          after = omega arith;
+          before = omega (arith, q .0);
+          floor-low =
+              c .before .before .before .before .before .before .before .before .before .before .before .before .before .before .pre .1 .0 .floor-low;
+          height-low = c .before .before .before .before .before .before .before .before .before .before .before .before .before .before .pre .1 .0 .height-low;
+          breaks-low = c .before .before .before .before .before .before .before .before .before .before .before .before .before .before .pre .1 .0 .breaks-low;
+        },
+        c .before .before .before .before .before .before .before .before .before .before .before .before .before .before .pre .1 .1 .0,
+      ),
+    )
 
 -- src/lib.rt:384:19
 two-arms-enum-told : (t : ℕ) → two-arms-lts.Need-enum-told (
@@ -2317,8 +2629,11 @@ two-arms-add-t41 : (t : ℕ) → two-arms-lts.Need-add-t41 (
   join-ends-reads.Learnt,
 ) (two-arms-at t) two-arms.Post
 two-arms-add-t41 t c =
-    let q = Cycle.two-arms-in (c .before .before .before .before .before .before .before .before .before .before .before .before .before .before .before .before .before .before .before .before .before .before .args .t .now) (c .before .before .before .before .before .before .before .before .before .before .before .before .before .before .before .before .before .before .before .before .before .before .args .heights .now) (c .before .before .before .before .before .before .before .before .before .before .before .before .before .before .before .before .before .before .before .before .before .before .args .blinds .now) (c .before .before .before .before .before .before .before .before .before .before .before .before .before .before .before .before .before .before .before .before .before .before .args .x) (c .before .before .before .before .before .before .before .before .before .before .before .before .before .before .before .before .before .before .before .before .before .before .args .target) (c .before .before .before .before .before .before .before .before .before .before .before .before .before .before .before .before .before .before .before .before .before .before .args .ip) (c .before .before .before .before .before .before .before .before .before .before .before .before .before .before .before .before .before .before .before .before .before .before .args .end) (c .before .before .before .before .before .before .before .before .before .before .before .before .before .before .before .before .before .before .before .before .before .before .args .floor) _ _ (c .before .before .before .before .before .before .before .before .before .before .before .before .before .before .before .before .before .before .before .before .before .before .pre .1 .0) (c .before .before .before .before .before .before .before .before .before .before .before .before .before .before .before .before .before .before .before .before .before .before .pre .1 .1 .1 .0) (c .before .before .before .before .before .before .before .before .before .before .before .before .before .before .before .before .before .before .before .before .before .before .pre .1 .1 .1 .1) (c .before .before .before .before .before .before .before .before .before .before .before .before .before .before .before .before .before .before .before .before .before .before .args .closer) (c .before .before .before .before .before .before .before .before .before .before .before .before .before .before .before .before .before .before .before .before .before .before .pre .1 .1 .1 .2) in omega (arith, q .2,
-    c .before .before .before .before .before .before .before .before .before .before .before .before .before .before .before .before .before .before .before .before .before .before .fits)
+    let q = Cycle.two-arms-in (c .before .before .before .before .before .before .before .before .before .before .before .before .before .before .before .before .before .before .before .before .before .before .args .t .now) (c .before .before .before .before .before .before .before .before .before .before .before .before .before .before .before .before .before .before .before .before .before .before .args .heights .now) (c .before .before .before .before .before .before .before .before .before .before .before .before .before .before .before .before .before .before .before .before .before .before .args .blinds .now) (c .before .before .before .before .before .before .before .before .before .before .before .before .before .before .before .before .before .before .before .before .before .before .args .x) (c .before .before .before .before .before .before .before .before .before .before .before .before .before .before .before .before .before .before .before .before .before .before .args .target) (c .before .before .before .before .before .before .before .before .before .before .before .before .before .before .before .before .before .before .before .before .before .before .args .ip) (c .before .before .before .before .before .before .before .before .before .before .before .before .before .before .before .before .before .before .before .before .before .before .args .end) (c .before .before .before .before .before .before .before .before .before .before .before .before .before .before .before .before .before .before .before .before .before .before .args .floor) _ _ (c .before .before .before .before .before .before .before .before .before .before .before .before .before .before .before .before .before .before .before .before .before .before .pre .1 .0) (c .before .before .before .before .before .before .before .before .before .before .before .before .before .before .before .before .before .before .before .before .before .before .pre .1 .1 .1 .0) (c .before .before .before .before .before .before .before .before .before .before .before .before .before .before .before .before .before .before .before .before .before .before .pre .1 .1 .1 .1) (c .before .before .before .before .before .before .before .before .before .before .before .before .before .before .before .before .before .before .before .before .before .before .args .closer) (c .before .before .before .before .before .before .before .before .before .before .before .before .before .before .before .before .before .before .before .before .before .before .pre .1 .1 .1 .2) in omega (
+      arith,
+      q .2,
+      c .before .before .before .before .before .before .before .before .before .before .before .before .before .before .before .before .before .before .before .before .before .before .fits,
+    )
 
 -- src/lib.rt:383:9
 two-arms-same-length : (t : ℕ) → two-arms-lts.Need-same-length (
@@ -2351,10 +2666,14 @@ two-arms-returns : (t : ℕ) → two-arms-lts.Need-returns (
   join-ends-reads.Asked,
   join-ends-reads.Learnt,
 ) (two-arms-at t) two-arms.Post
-two-arms-returns t c =
-    (c .before .before .before .before .before .before .before .interp-region .ensures .0, c .before .before .before .before .before .before .before .interp-region .ensures .1, Cycle.then-refused (c .before .before .before .before .before .before .before .before .before .before .before .before .before .before .before .before .before .before .before .before .before .before .args .t .now) (c .before .before .before .before .before .before .before .before .before .before .before .before .before .before .before .before .before .before .before .before .before .before .args .x) (c .before .before .before .before .before .before .before .before .before .before .before .before .before .before .before .before .before .before .before .before .before .before .args .target) (c .before .before .before .before .before .before .before .before .before .before .before .before .before .before .before .before .before .before .before .before .before .before .args .ip) (c .before .before .before .before .before .before .before .before .before .before .before .before .before .before .before .before .before .before .before .before .before .before .args .end) (c .before .before .before .before .before .before .before .before .before .before .before .before .before .before .before .before .before .before .before .before .before .before .args .floor) (at (c .before .before .before .before .before .before .before .before .before .before .before .before .before .before .before .before .before .before .before .before .before .before .args .height) (c .before .before .before .before .before .before .before .before .before .before .before .before .before .before .before .before .before .before .before .before .before .before .args .slots .now) (c .before .before .before .before .before .before .before .before .before .before .before .before .before .before .before .before .before .before .before .before .before .before .args .places .now)) (breaksIn (c .before .before .before .before .before .before .before .before .before .before .before .before .before .before .before .before .before .before .before .before .before .before .args .b) (c .before .before .before .before .before .before .before .before .before .before .before .before .before .before .before .before .before .before .before .before .before .before .args .broken .now) (c .before .before .before .before .before .before .before .before .before .before .before .before .before .before .before .before .before .before .before .before .before .before .args .held .now)) _ _ (outcomeIn (c .before .before .before .before .before .before .before .interp-region .result) (c .before .before .before .before .before .before .before .interp-region .last .1 .1 .1 .0) (c .before .before .before .before .before .before .before .interp-region .last .1 .1 .1 .1 .0) (c .before .before .before .before .before .before .before .interp-region .last .1 .1 .1 .1 .1 .0) (c .before .before .before .before .before .before .before .interp-region .last .1 .1 .1 .1 .1 .1 .0)) (c .before .before .before .before .before .before .before .before .before .before .before .before .before .before .before .before .before .before .before .before .before .before .args .closer)
-    (c .before .before .before .before .before .before .before .before .before .before .before .before .before .before .before .before .before .before .before .before .before .before .pre .1 .1 .1 .2) (c .before .before .before .before .before .before .before .interp-region .ensures .2) ((c .before .before .before .before .before .before .before .before .before .before .before .before .before .before .before .before .before .before .before .before .before .before .args .closer) + 1) (c .enum-told .given .1), (let q = Cycle.two-arms-in (c .before .before .before .before .before .before .before .before .before .before .before .before .before .before .before .before .before .before .before .before .before .before .args .t .now) (c .before .before .before .before .before .before .before .before .before .before .before .before .before .before .before .before .before .before .before .before .before .before .args .heights .now) (c .before .before .before .before .before .before .before .before .before .before .before .before .before .before .before .before .before .before .before .before .before .before .args .blinds .now) (c .before .before .before .before .before .before .before .before .before .before .before .before .before .before .before .before .before .before .before .before .before .before .args .x) (c .before .before .before .before .before .before .before .before .before .before .before .before .before .before .before .before .before .before .before .before .before .before .args .target) (c .before .before .before .before .before .before .before .before .before .before .before .before .before .before .before .before .before .before .before .before .before .before .args .ip) (c .before .before .before .before .before .before .before .before .before .before .before .before .before .before .before .before .before .before .before .before .before .before .args .end)
-    (c .before .before .before .before .before .before .before .before .before .before .before .before .before .before .before .before .before .before .before .before .before .before .args .floor) _ _ (c .before .before .before .before .before .before .before .before .before .before .before .before .before .before .before .before .before .before .before .before .before .before .pre .1 .0) (c .before .before .before .before .before .before .before .before .before .before .before .before .before .before .before .before .before .before .before .before .before .before .pre .1 .1 .1 .0) (c .before .before .before .before .before .before .before .before .before .before .before .before .before .before .before .before .before .before .before .before .before .before .pre .1 .1 .1 .1) (c .before .before .before .before .before .before .before .before .before .before .before .before .before .before .before .before .before .before .before .before .before .before .args .closer) (c .before .before .before .before .before .before .before .before .before .before .before .before .before .before .before .before .before .before .before .before .before .before .pre .1 .1 .1 .2) in (omega (arith, q .0, q .1), omega (arith, q .2), c .before .before .before .before .before .before .before .interp-region .ensures .3)))
+two-arms-returns t c = (
+  c .before .before .before .before .before .before .before .interp-region .ensures .0,
+  c .before .before .before .before .before .before .before .interp-region .ensures .1,
+  Cycle.then-refused (c .before .before .before .before .before .before .before .before .before .before .before .before .before .before .before .before .before .before .before .before .before .before .args .t .now) (c .before .before .before .before .before .before .before .before .before .before .before .before .before .before .before .before .before .before .before .before .before .before .args .x) (c .before .before .before .before .before .before .before .before .before .before .before .before .before .before .before .before .before .before .before .before .before .before .args .target) (c .before .before .before .before .before .before .before .before .before .before .before .before .before .before .before .before .before .before .before .before .before .before .args .ip) (c .before .before .before .before .before .before .before .before .before .before .before .before .before .before .before .before .before .before .before .before .before .before .args .end) (c .before .before .before .before .before .before .before .before .before .before .before .before .before .before .before .before .before .before .before .before .before .before .args .floor) (at (c .before .before .before .before .before .before .before .before .before .before .before .before .before .before .before .before .before .before .before .before .before .before .args .height) (c .before .before .before .before .before .before .before .before .before .before .before .before .before .before .before .before .before .before .before .before .before .before .args .slots .now) (c .before .before .before .before .before .before .before .before .before .before .before .before .before .before .before .before .before .before .before .before .before .before .args .places .now)) (breaksIn (c .before .before .before .before .before .before .before .before .before .before .before .before .before .before .before .before .before .before .before .before .before .before .args .b) (c .before .before .before .before .before .before .before .before .before .before .before .before .before .before .before .before .before .before .before .before .before .before .args .broken .now) (c .before .before .before .before .before .before .before .before .before .before .before .before .before .before .before .before .before .before .before .before .before .before .args .held .now)) _ _ (outcomeIn (c .before .before .before .before .before .before .before .interp-region .result) (c .before .before .before .before .before .before .before .interp-region .last .1 .1 .1 .0) (c .before .before .before .before .before .before .before .interp-region .last .1 .1 .1 .1 .0) (c .before .before .before .before .before .before .before .interp-region .last .1 .1 .1 .1 .1 .0) (c .before .before .before .before .before .before .before .interp-region .last .1 .1 .1 .1 .1 .1 .0)) (c .before .before .before .before .before .before .before .before .before .before .before .before .before .before .before .before .before .before .before .before .before .before .args .closer)
+      (c .before .before .before .before .before .before .before .before .before .before .before .before .before .before .before .before .before .before .before .before .before .before .pre .1 .1 .1 .2) (c .before .before .before .before .before .before .before .interp-region .ensures .2) ((c .before .before .before .before .before .before .before .before .before .before .before .before .before .before .before .before .before .before .before .before .before .before .args .closer) + 1) (c .enum-told .given .1),
+  (let q = Cycle.two-arms-in (c .before .before .before .before .before .before .before .before .before .before .before .before .before .before .before .before .before .before .before .before .before .before .args .t .now) (c .before .before .before .before .before .before .before .before .before .before .before .before .before .before .before .before .before .before .before .before .before .before .args .heights .now) (c .before .before .before .before .before .before .before .before .before .before .before .before .before .before .before .before .before .before .before .before .before .before .args .blinds .now) (c .before .before .before .before .before .before .before .before .before .before .before .before .before .before .before .before .before .before .before .before .before .before .args .x) (c .before .before .before .before .before .before .before .before .before .before .before .before .before .before .before .before .before .before .before .before .before .before .args .target) (c .before .before .before .before .before .before .before .before .before .before .before .before .before .before .before .before .before .before .before .before .before .before .args .ip) (c .before .before .before .before .before .before .before .before .before .before .before .before .before .before .before .before .before .before .before .before .before .before .args .end)
+      (c .before .before .before .before .before .before .before .before .before .before .before .before .before .before .before .before .before .before .before .before .before .before .args .floor) _ _ (c .before .before .before .before .before .before .before .before .before .before .before .before .before .before .before .before .before .before .before .before .before .before .pre .1 .0) (c .before .before .before .before .before .before .before .before .before .before .before .before .before .before .before .before .before .before .before .before .before .before .pre .1 .1 .1 .0) (c .before .before .before .before .before .before .before .before .before .before .before .before .before .before .before .before .before .before .before .before .before .before .pre .1 .1 .1 .1) (c .before .before .before .before .before .before .before .before .before .before .before .before .before .before .before .before .before .before .before .before .before .before .args .closer) (c .before .before .before .before .before .before .before .before .before .before .before .before .before .before .before .before .before .before .before .before .before .before .pre .1 .1 .1 .2) in (omega (arith, q .0, q .1), omega (arith, q .2), c .before .before .before .before .before .before .before .interp-region .ensures .3)),
+)
 
 -- src/lib.rt:388:9
 two-arms-interp-region-requires-2 : (t : ℕ) → two-arms-lts.Need-interp-region-requires-2 (
@@ -2366,10 +2685,29 @@ two-arms-interp-region-requires-2 : (t : ℕ) → two-arms-lts.Need-interp-regio
   join-ends-reads.Learnt,
 ) (two-arms-at t) two-arms.Post
 two-arms-interp-region-requires-2 t c κs =
-    let q = Cycle.two-arms-in (c .before .before .before .before .before .before .before .before .before .before .before .before .before .before .before .before .before .before .before .before .before .before .before .before .before .before .before .args .t .now) (c .before .before .before .before .before .before .before .before .before .before .before .before .before .before .before .before .before .before .before .before .before .before .before .before .before .before .before .args .heights .now) (c .before .before .before .before .before .before .before .before .before .before .before .before .before .before .before .before .before .before .before .before .before .before .before .before .before .before .before .args .blinds .now) (c .before .before .before .before .before .before .before .before .before .before .before .before .before .before .before .before .before .before .before .before .before .before .before .before .before .before .before .args .x) (c .before .before .before .before .before .before .before .before .before .before .before .before .before .before .before .before .before .before .before .before .before .before .before .before .before .before .before .args .target) (c .before .before .before .before .before .before .before .before .before .before .before .before .before .before .before .before .before .before .before .before .before .before .before .before .before .before .before .args .ip) (c .before .before .before .before .before .before .before .before .before .before .before .before .before .before .before .before .before .before .before .before .before .before .before .before .before .before .before .args .end) (c .before .before .before .before .before .before .before .before .before .before .before .before .before .before .before .before .before .before .before .before .before .before .before .before .before .before .before .args .floor) _ _ (c .before .before .before .before .before .before .before .before .before .before .before .before .before .before .before .before .before .before .before .before .before .before .before .before .before .before .before .pre .1 .0) (c .before .before .before .before .before .before .before .before .before .before .before .before .before .before .before .before .before .before .before .before .before .before .before .before .before .before .before .pre .1 .1 .1 .0) (c .before .before .before .before .before .before .before .before .before .before .before .before .before .before .before .before .before .before .before .before .before .before .before .before .before .before .before .pre .1 .1 .1 .1) (c .before .before .before .before .before .before .before .before .before .before .before .before .before .before .before .before .before .before .before .before .before .before .before .before .before .before .before .args .closer) (c .before .before .before .before .before .before .before .before .before .before .before .before .before .before .before .before .before .before .before .before .before .before .before .before .before .before .before .pre .1 .1 .1 .2) in (omega (arith, q .0,
-    q .1, q .2, c .before .before .before .before .before .before .before .before .before .before .before .before .before .before .before .before .before .before .before .before .before .before .before .before .before .before .before .pre .0), (record { placed = Cycle.placed-by (c .before .before .before .before .before .before .before .before .before .before .before .before .before .before .before .before .before .before .before .before .before .before .before .before .before .before .before .args .t .now) (c .before .before .before .before .before .before .before .before .before .before .before .before .before .before .before .before .before .before .before .before .before .before .before .before .before .before .before .args .heights .now) (c .before .before .before .before .before .before .before .before .before .before .before .before .before .before .before .before .before .before .before .before .before .before .before .before .before .before .before .args .blinds .now) _ _ (c .before .before .before .before .before .before .before .before .before .before .before .before .before .before .before .before .before .before .before .before .before .before .before .before .before .before .before .args .x) (c .before .before .before .before .before .before .before .before .before .before .before .before .interp-region .kept .1 .0) (c .before .before .before .before .before .before .before .before .before .before .before .before .interp-region .kept .1 .1 .0)
-    (c .before .before .before .before .before .before .before .before .before .before .before .before .before .before .before .before .before .before .before .before .before .before .before .before .before .before .before .pre .1 .0 .placed); from = c .before .before .before .before .before .before .before .before .before .before .before .before .before .before .before .before .before .before .before .before .before .before .before .before .before .before .before .args .target; arm = q .4; after = omega arith; before = q .1; floor-low = c .before .before .before .before .before .before .before .before .before .before .before .before .before .before .before .before .before .before .before .before .before .before .before .before .before .before .before .pre .1 .0 .floor-low; height-low = c .before .before .before .before .before .before .before .before .before .before .before .before .before .before .before .before .before .before .before .before .before .before .before .before .before .before .before .pre .1 .0 .height-low;
-    breaks-low = c .before .before .before .before .before .before .before .before .before .before .before .before .interp-region .ensures .3 .1 }, (c .before .before .before .before .before .before .before .before .before .before .before .before .before .before .before .before .before .before .before .copy .ensures .0, c .before .before .before .before .before .before .before .before .before .before .before .before .interp-region .ensures .1)))
+    let q = Cycle.two-arms-in (c .before .before .before .before .before .before .before .before .before .before .before .before .before .before .before .before .before .before .before .before .before .before .before .before .before .before .before .args .t .now) (c .before .before .before .before .before .before .before .before .before .before .before .before .before .before .before .before .before .before .before .before .before .before .before .before .before .before .before .args .heights .now) (c .before .before .before .before .before .before .before .before .before .before .before .before .before .before .before .before .before .before .before .before .before .before .before .before .before .before .before .args .blinds .now) (c .before .before .before .before .before .before .before .before .before .before .before .before .before .before .before .before .before .before .before .before .before .before .before .before .before .before .before .args .x) (c .before .before .before .before .before .before .before .before .before .before .before .before .before .before .before .before .before .before .before .before .before .before .before .before .before .before .before .args .target) (c .before .before .before .before .before .before .before .before .before .before .before .before .before .before .before .before .before .before .before .before .before .before .before .before .before .before .before .args .ip) (c .before .before .before .before .before .before .before .before .before .before .before .before .before .before .before .before .before .before .before .before .before .before .before .before .before .before .before .args .end) (c .before .before .before .before .before .before .before .before .before .before .before .before .before .before .before .before .before .before .before .before .before .before .before .before .before .before .before .args .floor) _ _ (c .before .before .before .before .before .before .before .before .before .before .before .before .before .before .before .before .before .before .before .before .before .before .before .before .before .before .before .pre .1 .0) (c .before .before .before .before .before .before .before .before .before .before .before .before .before .before .before .before .before .before .before .before .before .before .before .before .before .before .before .pre .1 .1 .1 .0) (c .before .before .before .before .before .before .before .before .before .before .before .before .before .before .before .before .before .before .before .before .before .before .before .before .before .before .before .pre .1 .1 .1 .1) (c .before .before .before .before .before .before .before .before .before .before .before .before .before .before .before .before .before .before .before .before .before .before .before .before .before .before .before .args .closer) (c .before .before .before .before .before .before .before .before .before .before .before .before .before .before .before .before .before .before .before .before .before .before .before .before .before .before .before .pre .1 .1 .1 .2) in (
+      omega (
+        arith,
+        q .0,
+        q .1,
+        q .2,
+        c .before .before .before .before .before .before .before .before .before .before .before .before .before .before .before .before .before .before .before .before .before .before .before .before .before .before .before .pre .0,
+      ),
+      (
+        record {
+          placed = Cycle.placed-by (c .before .before .before .before .before .before .before .before .before .before .before .before .before .before .before .before .before .before .before .before .before .before .before .before .before .before .before .args .t .now) (c .before .before .before .before .before .before .before .before .before .before .before .before .before .before .before .before .before .before .before .before .before .before .before .before .before .before .before .args .heights .now) (c .before .before .before .before .before .before .before .before .before .before .before .before .before .before .before .before .before .before .before .before .before .before .before .before .before .before .before .args .blinds .now) _ _ (c .before .before .before .before .before .before .before .before .before .before .before .before .before .before .before .before .before .before .before .before .before .before .before .before .before .before .before .args .x) (c .before .before .before .before .before .before .before .before .before .before .before .before .interp-region .kept .1 .0) (c .before .before .before .before .before .before .before .before .before .before .before .before .interp-region .kept .1 .1 .0)
+              (c .before .before .before .before .before .before .before .before .before .before .before .before .before .before .before .before .before .before .before .before .before .before .before .before .before .before .before .pre .1 .0 .placed);
+          from = c .before .before .before .before .before .before .before .before .before .before .before .before .before .before .before .before .before .before .before .before .before .before .before .before .before .before .before .args .target;
+          arm = q .4;
+          after = omega arith;
+          before = q .1;
+          floor-low = c .before .before .before .before .before .before .before .before .before .before .before .before .before .before .before .before .before .before .before .before .before .before .before .before .before .before .before .pre .1 .0 .floor-low;
+          height-low = c .before .before .before .before .before .before .before .before .before .before .before .before .before .before .before .before .before .before .before .before .before .before .before .before .before .before .before .pre .1 .0 .height-low;
+          breaks-low = c .before .before .before .before .before .before .before .before .before .before .before .before .interp-region .ensures .3 .1;
+        },
+        (c .before .before .before .before .before .before .before .before .before .before .before .before .before .before .before .before .before .before .before .copy .ensures .0, c .before .before .before .before .before .before .before .before .before .before .before .before .interp-region .ensures .1),
+      ),
+    )
 
 -- src/lib.rt:407:19
 two-arms-enum-told-2 : (t : ℕ) → two-arms-lts.Need-enum-told-2 (
@@ -2392,8 +2730,11 @@ two-arms-add-t50 : (t : ℕ) → two-arms-lts.Need-add-t50 (
   join-ends-reads.Learnt,
 ) (two-arms-at t) two-arms.Post
 two-arms-add-t50 t c =
-    let q = Cycle.two-arms-in (c .before .before .before .before .before .before .before .before .before .before .before .before .before .before .before .before .before .before .before .before .before .before .before .before .before .before .before .before .before .before .before .before .before .before .before .args .t .now) (c .before .before .before .before .before .before .before .before .before .before .before .before .before .before .before .before .before .before .before .before .before .before .before .before .before .before .before .before .before .before .before .before .before .before .before .args .heights .now) (c .before .before .before .before .before .before .before .before .before .before .before .before .before .before .before .before .before .before .before .before .before .before .before .before .before .before .before .before .before .before .before .before .before .before .before .args .blinds .now) (c .before .before .before .before .before .before .before .before .before .before .before .before .before .before .before .before .before .before .before .before .before .before .before .before .before .before .before .before .before .before .before .before .before .before .before .args .x) (c .before .before .before .before .before .before .before .before .before .before .before .before .before .before .before .before .before .before .before .before .before .before .before .before .before .before .before .before .before .before .before .before .before .before .before .args .target) (c .before .before .before .before .before .before .before .before .before .before .before .before .before .before .before .before .before .before .before .before .before .before .before .before .before .before .before .before .before .before .before .before .before .before .before .args .ip) (c .before .before .before .before .before .before .before .before .before .before .before .before .before .before .before .before .before .before .before .before .before .before .before .before .before .before .before .before .before .before .before .before .before .before .before .args .end) (c .before .before .before .before .before .before .before .before .before .before .before .before .before .before .before .before .before .before .before .before .before .before .before .before .before .before .before .before .before .before .before .before .before .before .before .args .floor) _ _ (c .before .before .before .before .before .before .before .before .before .before .before .before .before .before .before .before .before .before .before .before .before .before .before .before .before .before .before .before .before .before .before .before .before .before .before .pre .1 .0) (c .before .before .before .before .before .before .before .before .before .before .before .before .before .before .before .before .before .before .before .before .before .before .before .before .before .before .before .before .before .before .before .before .before .before .before .pre .1 .1 .1 .0) (c .before .before .before .before .before .before .before .before .before .before .before .before .before .before .before .before .before .before .before .before .before .before .before .before .before .before .before .before .before .before .before .before .before .before .before .pre .1 .1 .1 .1) (c .before .before .before .before .before .before .before .before .before .before .before .before .before .before .before .before .before .before .before .before .before .before .before .before .before .before .before .before .before .before .before .before .before .before .before .args .closer) (c .before .before .before .before .before .before .before .before .before .before .before .before .before .before .before .before .before .before .before .before .before .before .before .before .before .before .before .before .before .before .before .before .before .before .before .pre .1 .1 .1 .2) in omega (arith, q .2,
-    c .before .before .before .before .before .before .before .before .before .before .before .before .before .before .before .before .before .before .before .before .before .before .before .before .before .before .before .before .before .before .before .before .before .before .before .fits)
+    let q = Cycle.two-arms-in (c .before .before .before .before .before .before .before .before .before .before .before .before .before .before .before .before .before .before .before .before .before .before .before .before .before .before .before .before .before .before .before .before .before .before .before .args .t .now) (c .before .before .before .before .before .before .before .before .before .before .before .before .before .before .before .before .before .before .before .before .before .before .before .before .before .before .before .before .before .before .before .before .before .before .before .args .heights .now) (c .before .before .before .before .before .before .before .before .before .before .before .before .before .before .before .before .before .before .before .before .before .before .before .before .before .before .before .before .before .before .before .before .before .before .before .args .blinds .now) (c .before .before .before .before .before .before .before .before .before .before .before .before .before .before .before .before .before .before .before .before .before .before .before .before .before .before .before .before .before .before .before .before .before .before .before .args .x) (c .before .before .before .before .before .before .before .before .before .before .before .before .before .before .before .before .before .before .before .before .before .before .before .before .before .before .before .before .before .before .before .before .before .before .before .args .target) (c .before .before .before .before .before .before .before .before .before .before .before .before .before .before .before .before .before .before .before .before .before .before .before .before .before .before .before .before .before .before .before .before .before .before .before .args .ip) (c .before .before .before .before .before .before .before .before .before .before .before .before .before .before .before .before .before .before .before .before .before .before .before .before .before .before .before .before .before .before .before .before .before .before .before .args .end) (c .before .before .before .before .before .before .before .before .before .before .before .before .before .before .before .before .before .before .before .before .before .before .before .before .before .before .before .before .before .before .before .before .before .before .before .args .floor) _ _ (c .before .before .before .before .before .before .before .before .before .before .before .before .before .before .before .before .before .before .before .before .before .before .before .before .before .before .before .before .before .before .before .before .before .before .before .pre .1 .0) (c .before .before .before .before .before .before .before .before .before .before .before .before .before .before .before .before .before .before .before .before .before .before .before .before .before .before .before .before .before .before .before .before .before .before .before .pre .1 .1 .1 .0) (c .before .before .before .before .before .before .before .before .before .before .before .before .before .before .before .before .before .before .before .before .before .before .before .before .before .before .before .before .before .before .before .before .before .before .before .pre .1 .1 .1 .1) (c .before .before .before .before .before .before .before .before .before .before .before .before .before .before .before .before .before .before .before .before .before .before .before .before .before .before .before .before .before .before .before .before .before .before .before .args .closer) (c .before .before .before .before .before .before .before .before .before .before .before .before .before .before .before .before .before .before .before .before .before .before .before .before .before .before .before .before .before .before .before .before .before .before .before .pre .1 .1 .1 .2) in omega (
+      arith,
+      q .2,
+      c .before .before .before .before .before .before .before .before .before .before .before .before .before .before .before .before .before .before .before .before .before .before .before .before .before .before .before .before .before .before .before .before .before .before .before .fits,
+    )
 
 -- src/lib.rt:406:9
 two-arms-same-length-3 : (t : ℕ) → two-arms-lts.Need-same-length-3 (
@@ -2426,16 +2767,20 @@ two-arms-returns-2 : (t : ℕ) → two-arms-lts.Need-returns-2 (
   join-ends-reads.Asked,
   join-ends-reads.Learnt,
 ) (two-arms-at t) two-arms.Post
-two-arms-returns-2 t c =
-    (c .before .before .before .before .before .before .before .before .before .before .before .before .before .before .before .before .before .before .before .before .interp-region .ensures .0, c .before .before .before .before .before .before .before .interp-region2 .ensures .1, Cycle.else-refused (c .before .before .before .before .before .before .before .before .before .before .before .before .before .before .before .before .before .before .before .before .before .before .before .before .before .before .before .before .before .before .before .before .before .before .before .args .t .now) (c .before .before .before .before .before .before .before .before .before .before .before .before .before .before .before .before .before .before .before .before .before .before .before .before .before .before .before .before .before .before .before .before .before .before .before .args .x) (c .before .before .before .before .before .before .before .before .before .before .before .before .before .before .before .before .before .before .before .before .before .before .before .before .before .before .before .before .before .before .before .before .before .before .before .args .target) (c .before .before .before .before .before .before .before .before .before .before .before .before .before .before .before .before .before .before .before .before .before .before .before .before .before .before .before .before .before .before .before .before .before .before .before .args .ip) (c .before .before .before .before .before .before .before .before .before .before .before .before .before .before .before .before .before .before .before .before .before .before .before .before .before .before .before .before .before .before .before .before .before .before .before .args .end) (c .before .before .before .before .before .before .before .before .before .before .before .before .before .before .before .before .before .before .before .before .before .before .before .before .before .before .before .before .before .before .before .before .before .before .before .args .floor) (at (c .before .before .before .before .before .before .before .before .before .before .before .before .before .before .before .before .before .before .before .before .before .before .before .before .before .before .before .before .before .before .before .before .before .before .before .args .height) (c .before .before .before .before .before .before .before .before .before .before .before .before .before .before .before .before .before .before .before .before .before .before .before .before .before .before .before .before .before .before .before .before .before .before .before .args .slots .now) (c .before .before .before .before .before .before .before .before .before .before .before .before .before .before .before .before .before .before .before .before .before .before .before .before .before .before .before .before .before .before .before .before .before .before .before .args .places .now)) (breaksIn (c .before .before .before .before .before .before .before .before .before .before .before .before .before .before .before .before .before .before .before .before .before .before .before .before .before .before .before .before .before .before .before .before .before .before .before .args .b) (c .before .before .before .before .before .before .before .before .before .before .before .before .before .before .before .before .before .before .before .before .before .before .before .before .before .before .before .before .before .before .before .before .before .before .before .args .broken .now) (c .before .before .before .before .before .before .before .before .before .before .before .before .before .before .before .before .before .before .before .before .before .before .before .before .before .before .before .before .before .before .before .before .before .before .before .args .held .now)) _ _ (outcomeIn (c .before .before .before .before .before .before .before .before .before .before .before .before .before .before .before .before .before .before .before .before .interp-region .result) (c .before .before .before .before .before .before .before .before .before .before .before .before .before .before .before .before .before .before .before .before .interp-region .last .1 .1 .1 .0) (c .before .before .before .before .before .before .before .before .before .before .before .before .before .before .before .before .before .before .before .before .interp-region .last .1 .1 .1 .1 .0) (c .before .before .before .before .before .before .before .before .before .before .before .before .before .before .before .before .before .before .before .before .interp-region .last .1 .1 .1 .1 .1 .0) (c .before .before .before .before .before .before .before .before .before .before .before .before .before .before .before .before .before .before .before .before .interp-region .last .1 .1 .1 .1 .1 .1 .0)) (c .before .before .before .before .before .before .before .before .before .before .before .before .before .before .before .before .before .before .before .before .before .before .before .before .before .before .before .before .before .before .before .before .before .before .before .args .closer)
-    (c .before .before .before .before .before .before .before .before .before .before .before .before .before .before .before .before .before .before .before .before .before .before .before .before .before .before .before .before .before .before .before .before .before .before .before .pre .1 .1 .1 .2) (c .before .before .before .before .before .before .before .before .before .before .before .before .before .before .before .before .before .before .before .before .interp-region .ensures .2) (Laws.open-by (c .before .before .before .before .before .before .before .before .before .before .before .before .before .before .before .before .before .before .before .before .interp-region .result .flow) (c .before .before .before .before .before .before .before .before .before .before .before .before .before .before .match .keys2)) (outcomeIn (c .before .before .before .before .before .before .before .interp-region2 .result)
-    (c .before .before .before .before .before .before .before .before .before .before .before .before .before .before .before .before .before .before .before .before .interp-region .last .1 .1 .1 .0) (c .before .before .before .before .before .before .before .before .before .before .before .before .before .before .before .before .before .before .before .before .interp-region .last .1 .1 .1 .1 .0) (c .before .before .before .before .before .before .before .interp-region2 .last .1 .1 .1 .1 .1 .0) (c .before .before .before .before .before .before .before .interp-region2 .last .1 .1 .1 .1 .1 .1 .0)) _ (Cycle.refused-same
-    (c .before .before .before .before .before .before .before .before .before .before .before .before .before .before .before .before .before .before .before .before .before .before .before .before .before .before .before .before .before .before .before .before .before .before .before .args .x .locals) _ (outcomeIn (c .before .before .before .before .before .before .before .interp-region2 .result) (c .before .before .before .before .before .before .before .interp-region2 .last .1 .1 .1 .0) (c .before .before .before .before .before .before .before .interp-region2 .last .1 .1 .1 .1 .0)
-    (c .before .before .before .before .before .before .before .interp-region2 .last .1 .1 .1 .1 .1 .0) (c .before .before .before .before .before .before .before .interp-region2 .last .1 .1 .1 .1 .1 .1 .0)) _ (c .enum-told2 .given .1) (c .enum-told2 .given .1) ∙
-    c .before .before .before .before .before .before .before .interp-region2 .ensures .2 ∙ ap (λ (z : AnyState). full (Visits.chunkIn (c .before .before .before .before .before .before .before .before .before .before .before .before .before .before .before .before .before .before .before .before .before .before .before .before .before .before .before .before .before .before .before .before .before .before .before .args .t .now) (c .before .before .before .before .before .before .before .before .before .before .before .before .before .before .before .before .before .before .before .before .before .before .before .before .before .before .before .before .before .before .before .before .before .before .before .args .x)) (c .before .before .before .before .before .before .before .before .before .before .before .before .before .before .before .before .before .before .before .before .before .before .before .before .before .before .before .before .before .before .before .before .before .before .before .args .target) (c .before .before .before .before .before .before .before .before .before .before .before .before .before .before .before .before .before .before .before .before .before .before .before .before .before .before .before .before .before .before .before .before .before .before .before .args .closer) (c .before .before .before .before .before .before .before .before .before .before .before .before .before .before .before .before .before .before .before .before .before .before .before .before .before .before .before .before .before .before .before .before .before .before .before .args .floor) z (Outcomes.breaksOf (c .before .before .before .before .before .before .before .before .before .before .before .before .before .before .before .before .before .before .before .before .before .before .before .before .before .before .before .before .before .before .before .before .before .before .before .args .x .locals) (breaksIn
-    (c .before .before .before .before .before .before .before .before .before .before .before .before .before .before .before .before .before .before .before .before .interp-region .result .breaks) (c .before .before .before .before .before .before .before .before .before .before .before .before .before .before .before .before .before .before .before .before .interp-region .last .1 .1 .1 .1 .1 .0) (c .before .before .before .before .before .before .before .before .before .before .before .before .before .before .before .before .before .before .before .before .interp-region .last .1 .1 .1 .1 .1 .1 .0))) (sheetsOf (c .before .before .before .before .before .before .before .before .before .before .before .before .before .before .before .before .before .before .before .before .interp-region .last .1 .0) (c .before .before .before .before .before .before .before .before .before .before .before .before .before .before .before .before .before .before .before .before .interp-region .last .1 .1 .0)))
-    (c .before .before .before .before .before .before .before .before .before .before .before .before .before .before .before .before .before .before .before .before .before .before .before .before .before .before .before .copy .ensures .1)) ((c .before .before .before .before .before .before .before .before .before .before .before .before .before .before .before .before .before .before .before .before .before .before .before .before .before .before .before .before .before .before .before .before .before .before .before .args .closer) + 1) (c .enum-told2 .given .1), (let q = Cycle.two-arms-in (c .before .before .before .before .before .before .before .before .before .before .before .before .before .before .before .before .before .before .before .before .before .before .before .before .before .before .before .before .before .before .before .before .before .before .before .args .t .now) (c .before .before .before .before .before .before .before .before .before .before .before .before .before .before .before .before .before .before .before .before .before .before .before .before .before .before .before .before .before .before .before .before .before .before .before .args .heights .now) (c .before .before .before .before .before .before .before .before .before .before .before .before .before .before .before .before .before .before .before .before .before .before .before .before .before .before .before .before .before .before .before .before .before .before .before .args .blinds .now) (c .before .before .before .before .before .before .before .before .before .before .before .before .before .before .before .before .before .before .before .before .before .before .before .before .before .before .before .before .before .before .before .before .before .before .before .args .x) (c .before .before .before .before .before .before .before .before .before .before .before .before .before .before .before .before .before .before .before .before .before .before .before .before .before .before .before .before .before .before .before .before .before .before .before .args .target) (c .before .before .before .before .before .before .before .before .before .before .before .before .before .before .before .before .before .before .before .before .before .before .before .before .before .before .before .before .before .before .before .before .before .before .before .args .ip) (c .before .before .before .before .before .before .before .before .before .before .before .before .before .before .before .before .before .before .before .before .before .before .before .before .before .before .before .before .before .before .before .before .before .before .before .args .end) (c .before .before .before .before .before .before .before .before .before .before .before .before .before .before .before .before .before .before .before .before .before .before .before .before .before .before .before .before .before .before .before .before .before .before .before .args .floor) _ _ (c .before .before .before .before .before .before .before .before .before .before .before .before .before .before .before .before .before .before .before .before .before .before .before .before .before .before .before .before .before .before .before .before .before .before .before .pre .1 .0)
-    (c .before .before .before .before .before .before .before .before .before .before .before .before .before .before .before .before .before .before .before .before .before .before .before .before .before .before .before .before .before .before .before .before .before .before .before .pre .1 .1 .1 .0) (c .before .before .before .before .before .before .before .before .before .before .before .before .before .before .before .before .before .before .before .before .before .before .before .before .before .before .before .before .before .before .before .before .before .before .before .pre .1 .1 .1 .1) (c .before .before .before .before .before .before .before .before .before .before .before .before .before .before .before .before .before .before .before .before .before .before .before .before .before .before .before .before .before .before .before .before .before .before .before .args .closer) (c .before .before .before .before .before .before .before .before .before .before .before .before .before .before .before .before .before .before .before .before .before .before .before .before .before .before .before .before .before .before .before .before .before .before .before .pre .1 .1 .1 .2) in (omega (arith, q .0, q .1), omega (arith, q .2), c .before .before .before .before .before .before .before .interp-region2 .ensures .3)))
+two-arms-returns-2 t c = (
+  c .before .before .before .before .before .before .before .before .before .before .before .before .before .before .before .before .before .before .before .before .interp-region .ensures .0,
+  c .before .before .before .before .before .before .before .interp-region2 .ensures .1,
+  Cycle.else-refused (c .before .before .before .before .before .before .before .before .before .before .before .before .before .before .before .before .before .before .before .before .before .before .before .before .before .before .before .before .before .before .before .before .before .before .before .args .t .now) (c .before .before .before .before .before .before .before .before .before .before .before .before .before .before .before .before .before .before .before .before .before .before .before .before .before .before .before .before .before .before .before .before .before .before .before .args .x) (c .before .before .before .before .before .before .before .before .before .before .before .before .before .before .before .before .before .before .before .before .before .before .before .before .before .before .before .before .before .before .before .before .before .before .before .args .target) (c .before .before .before .before .before .before .before .before .before .before .before .before .before .before .before .before .before .before .before .before .before .before .before .before .before .before .before .before .before .before .before .before .before .before .before .args .ip) (c .before .before .before .before .before .before .before .before .before .before .before .before .before .before .before .before .before .before .before .before .before .before .before .before .before .before .before .before .before .before .before .before .before .before .before .args .end) (c .before .before .before .before .before .before .before .before .before .before .before .before .before .before .before .before .before .before .before .before .before .before .before .before .before .before .before .before .before .before .before .before .before .before .before .args .floor) (at (c .before .before .before .before .before .before .before .before .before .before .before .before .before .before .before .before .before .before .before .before .before .before .before .before .before .before .before .before .before .before .before .before .before .before .before .args .height) (c .before .before .before .before .before .before .before .before .before .before .before .before .before .before .before .before .before .before .before .before .before .before .before .before .before .before .before .before .before .before .before .before .before .before .before .args .slots .now) (c .before .before .before .before .before .before .before .before .before .before .before .before .before .before .before .before .before .before .before .before .before .before .before .before .before .before .before .before .before .before .before .before .before .before .before .args .places .now)) (breaksIn (c .before .before .before .before .before .before .before .before .before .before .before .before .before .before .before .before .before .before .before .before .before .before .before .before .before .before .before .before .before .before .before .before .before .before .before .args .b) (c .before .before .before .before .before .before .before .before .before .before .before .before .before .before .before .before .before .before .before .before .before .before .before .before .before .before .before .before .before .before .before .before .before .before .before .args .broken .now) (c .before .before .before .before .before .before .before .before .before .before .before .before .before .before .before .before .before .before .before .before .before .before .before .before .before .before .before .before .before .before .before .before .before .before .before .args .held .now)) _ _ (outcomeIn (c .before .before .before .before .before .before .before .before .before .before .before .before .before .before .before .before .before .before .before .before .interp-region .result) (c .before .before .before .before .before .before .before .before .before .before .before .before .before .before .before .before .before .before .before .before .interp-region .last .1 .1 .1 .0) (c .before .before .before .before .before .before .before .before .before .before .before .before .before .before .before .before .before .before .before .before .interp-region .last .1 .1 .1 .1 .0) (c .before .before .before .before .before .before .before .before .before .before .before .before .before .before .before .before .before .before .before .before .interp-region .last .1 .1 .1 .1 .1 .0) (c .before .before .before .before .before .before .before .before .before .before .before .before .before .before .before .before .before .before .before .before .interp-region .last .1 .1 .1 .1 .1 .1 .0)) (c .before .before .before .before .before .before .before .before .before .before .before .before .before .before .before .before .before .before .before .before .before .before .before .before .before .before .before .before .before .before .before .before .before .before .before .args .closer)
+      (c .before .before .before .before .before .before .before .before .before .before .before .before .before .before .before .before .before .before .before .before .before .before .before .before .before .before .before .before .before .before .before .before .before .before .before .pre .1 .1 .1 .2) (c .before .before .before .before .before .before .before .before .before .before .before .before .before .before .before .before .before .before .before .before .interp-region .ensures .2) (Laws.open-by (c .before .before .before .before .before .before .before .before .before .before .before .before .before .before .before .before .before .before .before .before .interp-region .result .flow) (c .before .before .before .before .before .before .before .before .before .before .before .before .before .before .match .keys2)) (outcomeIn (c .before .before .before .before .before .before .before .interp-region2 .result)
+      (c .before .before .before .before .before .before .before .before .before .before .before .before .before .before .before .before .before .before .before .before .interp-region .last .1 .1 .1 .0) (c .before .before .before .before .before .before .before .before .before .before .before .before .before .before .before .before .before .before .before .before .interp-region .last .1 .1 .1 .1 .0) (c .before .before .before .before .before .before .before .interp-region2 .last .1 .1 .1 .1 .1 .0) (c .before .before .before .before .before .before .before .interp-region2 .last .1 .1 .1 .1 .1 .1 .0)) _ (Cycle.refused-same
+      (c .before .before .before .before .before .before .before .before .before .before .before .before .before .before .before .before .before .before .before .before .before .before .before .before .before .before .before .before .before .before .before .before .before .before .before .args .x .locals) _ (outcomeIn (c .before .before .before .before .before .before .before .interp-region2 .result) (c .before .before .before .before .before .before .before .interp-region2 .last .1 .1 .1 .0) (c .before .before .before .before .before .before .before .interp-region2 .last .1 .1 .1 .1 .0)
+      (c .before .before .before .before .before .before .before .interp-region2 .last .1 .1 .1 .1 .1 .0) (c .before .before .before .before .before .before .before .interp-region2 .last .1 .1 .1 .1 .1 .1 .0)) _ (c .enum-told2 .given .1) (c .enum-told2 .given .1) ∙
+      c .before .before .before .before .before .before .before .interp-region2 .ensures .2 ∙ ap (λ (z : AnyState). full (Visits.chunkIn (c .before .before .before .before .before .before .before .before .before .before .before .before .before .before .before .before .before .before .before .before .before .before .before .before .before .before .before .before .before .before .before .before .before .before .before .args .t .now) (c .before .before .before .before .before .before .before .before .before .before .before .before .before .before .before .before .before .before .before .before .before .before .before .before .before .before .before .before .before .before .before .before .before .before .before .args .x)) (c .before .before .before .before .before .before .before .before .before .before .before .before .before .before .before .before .before .before .before .before .before .before .before .before .before .before .before .before .before .before .before .before .before .before .before .args .target) (c .before .before .before .before .before .before .before .before .before .before .before .before .before .before .before .before .before .before .before .before .before .before .before .before .before .before .before .before .before .before .before .before .before .before .before .args .closer) (c .before .before .before .before .before .before .before .before .before .before .before .before .before .before .before .before .before .before .before .before .before .before .before .before .before .before .before .before .before .before .before .before .before .before .before .args .floor) z (Outcomes.breaksOf (c .before .before .before .before .before .before .before .before .before .before .before .before .before .before .before .before .before .before .before .before .before .before .before .before .before .before .before .before .before .before .before .before .before .before .before .args .x .locals) (breaksIn
+      (c .before .before .before .before .before .before .before .before .before .before .before .before .before .before .before .before .before .before .before .before .interp-region .result .breaks) (c .before .before .before .before .before .before .before .before .before .before .before .before .before .before .before .before .before .before .before .before .interp-region .last .1 .1 .1 .1 .1 .0) (c .before .before .before .before .before .before .before .before .before .before .before .before .before .before .before .before .before .before .before .before .interp-region .last .1 .1 .1 .1 .1 .1 .0))) (sheetsOf (c .before .before .before .before .before .before .before .before .before .before .before .before .before .before .before .before .before .before .before .before .interp-region .last .1 .0) (c .before .before .before .before .before .before .before .before .before .before .before .before .before .before .before .before .before .before .before .before .interp-region .last .1 .1 .0)))
+      (c .before .before .before .before .before .before .before .before .before .before .before .before .before .before .before .before .before .before .before .before .before .before .before .before .before .before .before .copy .ensures .1)) ((c .before .before .before .before .before .before .before .before .before .before .before .before .before .before .before .before .before .before .before .before .before .before .before .before .before .before .before .before .before .before .before .before .before .before .before .args .closer) + 1) (c .enum-told2 .given .1),
+  (let q = Cycle.two-arms-in (c .before .before .before .before .before .before .before .before .before .before .before .before .before .before .before .before .before .before .before .before .before .before .before .before .before .before .before .before .before .before .before .before .before .before .before .args .t .now) (c .before .before .before .before .before .before .before .before .before .before .before .before .before .before .before .before .before .before .before .before .before .before .before .before .before .before .before .before .before .before .before .before .before .before .before .args .heights .now) (c .before .before .before .before .before .before .before .before .before .before .before .before .before .before .before .before .before .before .before .before .before .before .before .before .before .before .before .before .before .before .before .before .before .before .before .args .blinds .now) (c .before .before .before .before .before .before .before .before .before .before .before .before .before .before .before .before .before .before .before .before .before .before .before .before .before .before .before .before .before .before .before .before .before .before .before .args .x) (c .before .before .before .before .before .before .before .before .before .before .before .before .before .before .before .before .before .before .before .before .before .before .before .before .before .before .before .before .before .before .before .before .before .before .before .args .target) (c .before .before .before .before .before .before .before .before .before .before .before .before .before .before .before .before .before .before .before .before .before .before .before .before .before .before .before .before .before .before .before .before .before .before .before .args .ip) (c .before .before .before .before .before .before .before .before .before .before .before .before .before .before .before .before .before .before .before .before .before .before .before .before .before .before .before .before .before .before .before .before .before .before .before .args .end) (c .before .before .before .before .before .before .before .before .before .before .before .before .before .before .before .before .before .before .before .before .before .before .before .before .before .before .before .before .before .before .before .before .before .before .before .args .floor) _ _ (c .before .before .before .before .before .before .before .before .before .before .before .before .before .before .before .before .before .before .before .before .before .before .before .before .before .before .before .before .before .before .before .before .before .before .before .pre .1 .0)
+      (c .before .before .before .before .before .before .before .before .before .before .before .before .before .before .before .before .before .before .before .before .before .before .before .before .before .before .before .before .before .before .before .before .before .before .before .pre .1 .1 .1 .0) (c .before .before .before .before .before .before .before .before .before .before .before .before .before .before .before .before .before .before .before .before .before .before .before .before .before .before .before .before .before .before .before .before .before .before .before .pre .1 .1 .1 .1) (c .before .before .before .before .before .before .before .before .before .before .before .before .before .before .before .before .before .before .before .before .before .before .before .before .before .before .before .before .before .before .before .before .before .before .before .args .closer) (c .before .before .before .before .before .before .before .before .before .before .before .before .before .before .before .before .before .before .before .before .before .before .before .before .before .before .before .before .before .before .before .before .before .before .before .pre .1 .1 .1 .2) in (omega (arith, q .0, q .1), omega (arith, q .2), c .before .before .before .before .before .before .before .interp-region2 .ensures .3)),
+)
 
 -- src/lib.rt:411:9
 two-arms-join-ends-requires : (t : ℕ) → two-arms-lts.Need-join-ends-requires (
@@ -2446,10 +2791,17 @@ two-arms-join-ends-requires : (t : ℕ) → two-arms-lts.Need-join-ends-requires
   join-ends-reads.Asked,
   join-ends-reads.Learnt,
 ) (two-arms-at t) two-arms.Post
-two-arms-join-ends-requires t c κs =
-    (c .before .before .before .before .before .before .before .before .before .before .before .before .before .before .before .before .before .before .before .before .before .before .before .interp-region .ensures .0, c .before .before .before .before .before .before .before .before .before .before .interp-region2 .ensures .0, c .before .before .before .before .before .before .before .before .before .before .before .before .before .before .before .before .before .before .before .before .before .before .before .interp-region .ensures .3 .0, c .before .before .before .before .before .before .before .before .before .before .interp-region2 .ensures .3 .0,
-    c .before .before .before .before .before .before .before .before .before .before .interp-region2 .ensures .3 .1, omega (arith, c .before .before .before .before .before .before .before .before .before .before .before .before .before .before .before .before .before .before .before .before .before .before .before .before .before .before .before .before .before .before .before .before .before .before .before .before .before .before .pre .1 .0 .placed .of .locals, locals-low (c .before .before .before .before .before .before .before .before .before .before .before .before .before .before .before .before .before .before .before .before .before .before .before .before .before .before .before .before .before .before .before .before .before .before .before .before .before .before .args .t .now) (c .before .before .before .before .before .before .before .before .before .before .before .before .before .before .before .before .before .before .before .before .before .before .before .before .before .before .before .before .before .before .before .before .before .before .before .before .before .before .args .x .chunk)), (Laws.open-by (c .before .before .before .before .before .before .before .before .before .before .before .before .before .before .before .before .before .before .before .before .before .before .before .interp-region .result .flow)
-    (c .before .before .before .before .before .before .before .before .before .before .before .before .before .before .before .before .before .match .keys2)), (Laws.open-by (c .before .before .before .before .before .before .before .before .before .before .interp-region2 .result .flow) (c .before .before .before .before .match2 .keys2)))
+two-arms-join-ends-requires t c κs = (
+  c .before .before .before .before .before .before .before .before .before .before .before .before .before .before .before .before .before .before .before .before .before .before .before .interp-region .ensures .0,
+  c .before .before .before .before .before .before .before .before .before .before .interp-region2 .ensures .0,
+  c .before .before .before .before .before .before .before .before .before .before .before .before .before .before .before .before .before .before .before .before .before .before .before .interp-region .ensures .3 .0,
+  c .before .before .before .before .before .before .before .before .before .before .interp-region2 .ensures .3 .0,
+  c .before .before .before .before .before .before .before .before .before .before .interp-region2 .ensures .3 .1,
+  omega (arith, c .before .before .before .before .before .before .before .before .before .before .before .before .before .before .before .before .before .before .before .before .before .before .before .before .before .before .before .before .before .before .before .before .before .before .before .before .before .before .pre .1 .0 .placed .of .locals, locals-low (c .before .before .before .before .before .before .before .before .before .before .before .before .before .before .before .before .before .before .before .before .before .before .before .before .before .before .before .before .before .before .before .before .before .before .before .before .before .before .args .t .now) (c .before .before .before .before .before .before .before .before .before .before .before .before .before .before .before .before .before .before .before .before .before .before .before .before .before .before .before .before .before .before .before .before .before .before .before .before .before .before .args .x .chunk)),
+  (Laws.open-by (c .before .before .before .before .before .before .before .before .before .before .before .before .before .before .before .before .before .before .before .before .before .before .before .interp-region .result .flow)
+      (c .before .before .before .before .before .before .before .before .before .before .before .before .before .before .before .before .before .match .keys2)),
+  (Laws.open-by (c .before .before .before .before .before .before .before .before .before .before .interp-region2 .result .flow) (c .before .before .before .before .match2 .keys2)),
+)
 
 -- src/lib.rt:425:15
 two-arms-add-t39 : (t : ℕ) → two-arms-lts.Need-add-t39 (
@@ -2461,8 +2813,11 @@ two-arms-add-t39 : (t : ℕ) → two-arms-lts.Need-add-t39 (
   join-ends-reads.Learnt,
 ) (two-arms-at t) two-arms.Post
 two-arms-add-t39 t c =
-    let q = Cycle.two-arms-in (c .before .before .before .before .before .before .before .before .before .before .before .before .before .before .before .before .before .before .before .before .before .before .before .before .before .before .before .before .before .before .before .before .before .before .before .before .before .before .before .args .t .now) (c .before .before .before .before .before .before .before .before .before .before .before .before .before .before .before .before .before .before .before .before .before .before .before .before .before .before .before .before .before .before .before .before .before .before .before .before .before .before .before .args .heights .now) (c .before .before .before .before .before .before .before .before .before .before .before .before .before .before .before .before .before .before .before .before .before .before .before .before .before .before .before .before .before .before .before .before .before .before .before .before .before .before .before .args .blinds .now) (c .before .before .before .before .before .before .before .before .before .before .before .before .before .before .before .before .before .before .before .before .before .before .before .before .before .before .before .before .before .before .before .before .before .before .before .before .before .before .before .args .x) (c .before .before .before .before .before .before .before .before .before .before .before .before .before .before .before .before .before .before .before .before .before .before .before .before .before .before .before .before .before .before .before .before .before .before .before .before .before .before .before .args .target) (c .before .before .before .before .before .before .before .before .before .before .before .before .before .before .before .before .before .before .before .before .before .before .before .before .before .before .before .before .before .before .before .before .before .before .before .before .before .before .before .args .ip) (c .before .before .before .before .before .before .before .before .before .before .before .before .before .before .before .before .before .before .before .before .before .before .before .before .before .before .before .before .before .before .before .before .before .before .before .before .before .before .before .args .end) (c .before .before .before .before .before .before .before .before .before .before .before .before .before .before .before .before .before .before .before .before .before .before .before .before .before .before .before .before .before .before .before .before .before .before .before .before .before .before .before .args .floor) _ _ (c .before .before .before .before .before .before .before .before .before .before .before .before .before .before .before .before .before .before .before .before .before .before .before .before .before .before .before .before .before .before .before .before .before .before .before .before .before .before .before .pre .1 .0) (c .before .before .before .before .before .before .before .before .before .before .before .before .before .before .before .before .before .before .before .before .before .before .before .before .before .before .before .before .before .before .before .before .before .before .before .before .before .before .before .pre .1 .1 .1 .0) (c .before .before .before .before .before .before .before .before .before .before .before .before .before .before .before .before .before .before .before .before .before .before .before .before .before .before .before .before .before .before .before .before .before .before .before .before .before .before .before .pre .1 .1 .1 .1) (c .before .before .before .before .before .before .before .before .before .before .before .before .before .before .before .before .before .before .before .before .before .before .before .before .before .before .before .before .before .before .before .before .before .before .before .before .before .before .before .args .closer) (c .before .before .before .before .before .before .before .before .before .before .before .before .before .before .before .before .before .before .before .before .before .before .before .before .before .before .before .before .before .before .before .before .before .before .before .before .before .before .before .pre .1 .1 .1 .2) in omega (arith, q .2,
-    c .before .before .before .before .before .before .before .before .before .before .before .before .before .before .before .before .before .before .before .before .before .before .before .before .before .before .before .before .before .before .before .before .before .before .before .before .before .before .before .fits)
+    let q = Cycle.two-arms-in (c .before .before .before .before .before .before .before .before .before .before .before .before .before .before .before .before .before .before .before .before .before .before .before .before .before .before .before .before .before .before .before .before .before .before .before .before .before .before .before .args .t .now) (c .before .before .before .before .before .before .before .before .before .before .before .before .before .before .before .before .before .before .before .before .before .before .before .before .before .before .before .before .before .before .before .before .before .before .before .before .before .before .before .args .heights .now) (c .before .before .before .before .before .before .before .before .before .before .before .before .before .before .before .before .before .before .before .before .before .before .before .before .before .before .before .before .before .before .before .before .before .before .before .before .before .before .before .args .blinds .now) (c .before .before .before .before .before .before .before .before .before .before .before .before .before .before .before .before .before .before .before .before .before .before .before .before .before .before .before .before .before .before .before .before .before .before .before .before .before .before .before .args .x) (c .before .before .before .before .before .before .before .before .before .before .before .before .before .before .before .before .before .before .before .before .before .before .before .before .before .before .before .before .before .before .before .before .before .before .before .before .before .before .before .args .target) (c .before .before .before .before .before .before .before .before .before .before .before .before .before .before .before .before .before .before .before .before .before .before .before .before .before .before .before .before .before .before .before .before .before .before .before .before .before .before .before .args .ip) (c .before .before .before .before .before .before .before .before .before .before .before .before .before .before .before .before .before .before .before .before .before .before .before .before .before .before .before .before .before .before .before .before .before .before .before .before .before .before .before .args .end) (c .before .before .before .before .before .before .before .before .before .before .before .before .before .before .before .before .before .before .before .before .before .before .before .before .before .before .before .before .before .before .before .before .before .before .before .before .before .before .before .args .floor) _ _ (c .before .before .before .before .before .before .before .before .before .before .before .before .before .before .before .before .before .before .before .before .before .before .before .before .before .before .before .before .before .before .before .before .before .before .before .before .before .before .before .pre .1 .0) (c .before .before .before .before .before .before .before .before .before .before .before .before .before .before .before .before .before .before .before .before .before .before .before .before .before .before .before .before .before .before .before .before .before .before .before .before .before .before .before .pre .1 .1 .1 .0) (c .before .before .before .before .before .before .before .before .before .before .before .before .before .before .before .before .before .before .before .before .before .before .before .before .before .before .before .before .before .before .before .before .before .before .before .before .before .before .before .pre .1 .1 .1 .1) (c .before .before .before .before .before .before .before .before .before .before .before .before .before .before .before .before .before .before .before .before .before .before .before .before .before .before .before .before .before .before .before .before .before .before .before .before .before .before .before .args .closer) (c .before .before .before .before .before .before .before .before .before .before .before .before .before .before .before .before .before .before .before .before .before .before .before .before .before .before .before .before .before .before .before .before .before .before .before .before .before .before .before .pre .1 .1 .1 .2) in omega (
+      arith,
+      q .2,
+      c .before .before .before .before .before .before .before .before .before .before .before .before .before .before .before .before .before .before .before .before .before .before .before .before .before .before .before .before .before .before .before .before .before .before .before .before .before .before .before .fits,
+    )
 
 -- src/lib.rt:339:1
 two-arms-same-length-5 : (t : ℕ) → two-arms-lts.Need-same-length-5 (
@@ -2495,17 +2850,24 @@ two-arms-returns-3 : (t : ℕ) → two-arms-lts.Need-returns-3 (
   join-ends-reads.Asked,
   join-ends-reads.Learnt,
 ) (two-arms-at t) two-arms.Post
-two-arms-returns-3 t c =
-    (c .join-ends .ensures .0, c .before .before .before .before .before .before .before .before .before .before .before .interp-region2 .ensures .1, Cycle.both-joined (c .before .before .before .before .before .before .before .before .before .before .before .before .before .before .before .before .before .before .before .before .before .before .before .before .before .before .before .before .before .before .before .before .before .before .before .before .before .before .before .args .t .now) (c .before .before .before .before .before .before .before .before .before .before .before .before .before .before .before .before .before .before .before .before .before .before .before .before .before .before .before .before .before .before .before .before .before .before .before .before .before .before .before .args .x) (c .before .before .before .before .before .before .before .before .before .before .before .before .before .before .before .before .before .before .before .before .before .before .before .before .before .before .before .before .before .before .before .before .before .before .before .before .before .before .before .args .target) (c .before .before .before .before .before .before .before .before .before .before .before .before .before .before .before .before .before .before .before .before .before .before .before .before .before .before .before .before .before .before .before .before .before .before .before .before .before .before .before .args .ip) (c .before .before .before .before .before .before .before .before .before .before .before .before .before .before .before .before .before .before .before .before .before .before .before .before .before .before .before .before .before .before .before .before .before .before .before .before .before .before .before .args .end) (c .before .before .before .before .before .before .before .before .before .before .before .before .before .before .before .before .before .before .before .before .before .before .before .before .before .before .before .before .before .before .before .before .before .before .before .before .before .before .before .args .floor) (at (c .before .before .before .before .before .before .before .before .before .before .before .before .before .before .before .before .before .before .before .before .before .before .before .before .before .before .before .before .before .before .before .before .before .before .before .before .before .before .before .args .height) (c .before .before .before .before .before .before .before .before .before .before .before .before .before .before .before .before .before .before .before .before .before .before .before .before .before .before .before .before .before .before .before .before .before .before .before .before .before .before .before .args .slots .now) (c .before .before .before .before .before .before .before .before .before .before .before .before .before .before .before .before .before .before .before .before .before .before .before .before .before .before .before .before .before .before .before .before .before .before .before .before .before .before .before .args .places .now)) (breaksIn (c .before .before .before .before .before .before .before .before .before .before .before .before .before .before .before .before .before .before .before .before .before .before .before .before .before .before .before .before .before .before .before .before .before .before .before .before .before .before .before .args .b) (c .before .before .before .before .before .before .before .before .before .before .before .before .before .before .before .before .before .before .before .before .before .before .before .before .before .before .before .before .before .before .before .before .before .before .before .before .before .before .before .args .broken .now) (c .before .before .before .before .before .before .before .before .before .before .before .before .before .before .before .before .before .before .before .before .before .before .before .before .before .before .before .before .before .before .before .before .before .before .before .before .before .before .before .args .held .now)) _ _ (outcomeIn (c .before .before .before .before .before .before .before .before .before .before .before .before .before .before .before .before .before .before .before .before .before .before .before .before .interp-region .result) (c .before .before .before .before .before .before .before .before .before .before .before .before .before .before .before .before .before .before .before .before .before .before .before .before .interp-region .last .1 .1 .1 .0) (c .before .before .before .before .before .before .before .before .before .before .before .before .before .before .before .before .before .before .before .before .before .before .before .before .interp-region .last .1 .1 .1 .1 .0) (c .before .before .before .before .before .before .before .before .before .before .before .before .before .before .before .before .before .before .before .before .before .before .before .before .interp-region .last .1 .1 .1 .1 .1 .0) (c .before .before .before .before .before .before .before .before .before .before .before .before .before .before .before .before .before .before .before .before .before .before .before .before .interp-region .last .1 .1 .1 .1 .1 .1 .0)) (c .before .before .before .before .before .before .before .before .before .before .before .before .before .before .before .before .before .before .before .before .before .before .before .before .before .before .before .before .before .before .before .before .before .before .before .before .before .before .before .args .closer)
-    (c .before .before .before .before .before .before .before .before .before .before .before .before .before .before .before .before .before .before .before .before .before .before .before .before .before .before .before .before .before .before .before .before .before .before .before .before .before .before .before .pre .1 .1 .1 .2) (c .before .before .before .before .before .before .before .before .before .before .before .before .before .before .before .before .before .before .before .before .before .before .before .before .interp-region .ensures .2) (Laws.open-by (c .before .before .before .before .before .before .before .before .before .before .before .before .before .before .before .before .before .before .before .before .before .before .before .before .interp-region .result .flow) (c .before .before .before .before .before .before .before .before .before .before .before .before .before .before .before .before .before .before .match .keys2)) (outcomeIn (c .before .before .before .before .before .before .before .before .before .before .before .interp-region2 .result)
-    (c .before .before .before .before .before .before .before .before .before .before .before .interp-region2 .last .1 .1 .1 .0) (c .before .before .before .before .before .before .before .before .before .before .before .interp-region2 .last .1 .1 .1 .1 .0) (c .before .before .before .before .before .before .before .before .before .before .before .interp-region2 .last .1 .1 .1 .1 .1 .0)
-    (c .before .before .before .before .before .before .before .before .before .before .before .interp-region2 .last .1 .1 .1 .1 .1 .1 .0)) _ (c .before .before .before .before .before .before .before .before .before .before .before .interp-region2 .ensures .2 ∙ ap (λ (z : AnyState). full (Visits.chunkIn (c .before .before .before .before .before .before .before .before .before .before .before .before .before .before .before .before .before .before .before .before .before .before .before .before .before .before .before .before .before .before .before .before .before .before .before .before .before .before .before .args .t .now) (c .before .before .before .before .before .before .before .before .before .before .before .before .before .before .before .before .before .before .before .before .before .before .before .before .before .before .before .before .before .before .before .before .before .before .before .before .before .before .before .args .x)) (c .before .before .before .before .before .before .before .before .before .before .before .before .before .before .before .before .before .before .before .before .before .before .before .before .before .before .before .before .before .before .before .before .before .before .before .before .before .before .before .args .target) (c .before .before .before .before .before .before .before .before .before .before .before .before .before .before .before .before .before .before .before .before .before .before .before .before .before .before .before .before .before .before .before .before .before .before .before .before .before .before .before .args .closer) (c .before .before .before .before .before .before .before .before .before .before .before .before .before .before .before .before .before .before .before .before .before .before .before .before .before .before .before .before .before .before .before .before .before .before .before .before .before .before .before .args .floor) z (Outcomes.breaksOf
-    (c .before .before .before .before .before .before .before .before .before .before .before .before .before .before .before .before .before .before .before .before .before .before .before .before .before .before .before .before .before .before .before .before .before .before .before .before .before .before .before .args .x .locals) (breaksIn (c .before .before .before .before .before .before .before .before .before .before .before .before .before .before .before .before .before .before .before .before .before .before .before .before .interp-region .result .breaks) (c .before .before .before .before .before .before .before .before .before .before .before .before .before .before .before .before .before .before .before .before .before .before .before .before .interp-region .last .1 .1 .1 .1 .1 .0) (c .before .before .before .before .before .before .before .before .before .before .before .before .before .before .before .before .before .before .before .before .before .before .before .before .interp-region .last .1 .1 .1 .1 .1 .1 .0))) (sheetsOf (c .before .before .before .before .before .before .before .before .before .before .before .before .before .before .before .before .before .before .before .before .before .before .before .before .interp-region .last .1 .0)
-    (c .before .before .before .before .before .before .before .before .before .before .before .before .before .before .before .before .before .before .before .before .before .before .before .before .interp-region .last .1 .1 .0))) (c .before .before .before .before .before .before .before .before .before .before .before .before .before .before .before .before .before .before .before .before .before .before .before .before .before .before .before .before .before .before .before .copy .ensures .1)) (Laws.open-by (c .before .before .before .before .before .before .before .before .before .before .before .interp-region2 .result .flow) (c .before .before .before .before .before .match2 .keys2)) (outcomeIn (c .join-ends .result)
-    (c .join-ends .last .0) (c .join-ends .last .1 .0) (c .before .before .before .before .before .before .before .before .before .before .before .interp-region2 .last .1 .1 .1 .1 .1 .0) (c .before .before .before .before .before .before .before .before .before .before .before .interp-region2 .last .1 .1 .1 .1 .1 .1 .0))
-    (c .join-ends .ensures .1 (c .before .before .before .before .before .before .before .before .before .before .before .interp-region2 .last .1 .1 .1 .1 .1 .0) (c .before .before .before .before .before .before .before .before .before .before .before .interp-region2 .last .1 .1 .1 .1 .1 .1 .0) _), (let q = Cycle.two-arms-in (c .before .before .before .before .before .before .before .before .before .before .before .before .before .before .before .before .before .before .before .before .before .before .before .before .before .before .before .before .before .before .before .before .before .before .before .before .before .before .before .args .t .now) (c .before .before .before .before .before .before .before .before .before .before .before .before .before .before .before .before .before .before .before .before .before .before .before .before .before .before .before .before .before .before .before .before .before .before .before .before .before .before .before .args .heights .now)
-    (c .before .before .before .before .before .before .before .before .before .before .before .before .before .before .before .before .before .before .before .before .before .before .before .before .before .before .before .before .before .before .before .before .before .before .before .before .before .before .before .args .blinds .now) (c .before .before .before .before .before .before .before .before .before .before .before .before .before .before .before .before .before .before .before .before .before .before .before .before .before .before .before .before .before .before .before .before .before .before .before .before .before .before .before .args .x) (c .before .before .before .before .before .before .before .before .before .before .before .before .before .before .before .before .before .before .before .before .before .before .before .before .before .before .before .before .before .before .before .before .before .before .before .before .before .before .before .args .target) (c .before .before .before .before .before .before .before .before .before .before .before .before .before .before .before .before .before .before .before .before .before .before .before .before .before .before .before .before .before .before .before .before .before .before .before .before .before .before .before .args .ip) (c .before .before .before .before .before .before .before .before .before .before .before .before .before .before .before .before .before .before .before .before .before .before .before .before .before .before .before .before .before .before .before .before .before .before .before .before .before .before .before .args .end) (c .before .before .before .before .before .before .before .before .before .before .before .before .before .before .before .before .before .before .before .before .before .before .before .before .before .before .before .before .before .before .before .before .before .before .before .before .before .before .before .args .floor) _ _ (c .before .before .before .before .before .before .before .before .before .before .before .before .before .before .before .before .before .before .before .before .before .before .before .before .before .before .before .before .before .before .before .before .before .before .before .before .before .before .before .pre .1 .0) (c .before .before .before .before .before .before .before .before .before .before .before .before .before .before .before .before .before .before .before .before .before .before .before .before .before .before .before .before .before .before .before .before .before .before .before .before .before .before .before .pre .1 .1 .1 .0) (c .before .before .before .before .before .before .before .before .before .before .before .before .before .before .before .before .before .before .before .before .before .before .before .before .before .before .before .before .before .before .before .before .before .before .before .before .before .before .before .pre .1 .1 .1 .1) (c .before .before .before .before .before .before .before .before .before .before .before .before .before .before .before .before .before .before .before .before .before .before .before .before .before .before .before .before .before .before .before .before .before .before .before .before .before .before .before .args .closer) (c .before .before .before .before .before .before .before .before .before .before .before .before .before .before .before .before .before .before .before .before .before .before .before .before .before .before .before .before .before .before .before .before .before .before .before .before .before .before .before .pre .1 .1 .1 .2) in (omega (arith, q .0, q .1), omega (arith, q .2),
-    c .join-ends .ensures .2)))
+two-arms-returns-3 t c = (
+  c .join-ends .ensures .0,
+  c .before .before .before .before .before .before .before .before .before .before .before .interp-region2 .ensures .1,
+  Cycle.both-joined (c .before .before .before .before .before .before .before .before .before .before .before .before .before .before .before .before .before .before .before .before .before .before .before .before .before .before .before .before .before .before .before .before .before .before .before .before .before .before .before .args .t .now) (c .before .before .before .before .before .before .before .before .before .before .before .before .before .before .before .before .before .before .before .before .before .before .before .before .before .before .before .before .before .before .before .before .before .before .before .before .before .before .before .args .x) (c .before .before .before .before .before .before .before .before .before .before .before .before .before .before .before .before .before .before .before .before .before .before .before .before .before .before .before .before .before .before .before .before .before .before .before .before .before .before .before .args .target) (c .before .before .before .before .before .before .before .before .before .before .before .before .before .before .before .before .before .before .before .before .before .before .before .before .before .before .before .before .before .before .before .before .before .before .before .before .before .before .before .args .ip) (c .before .before .before .before .before .before .before .before .before .before .before .before .before .before .before .before .before .before .before .before .before .before .before .before .before .before .before .before .before .before .before .before .before .before .before .before .before .before .before .args .end) (c .before .before .before .before .before .before .before .before .before .before .before .before .before .before .before .before .before .before .before .before .before .before .before .before .before .before .before .before .before .before .before .before .before .before .before .before .before .before .before .args .floor) (at (c .before .before .before .before .before .before .before .before .before .before .before .before .before .before .before .before .before .before .before .before .before .before .before .before .before .before .before .before .before .before .before .before .before .before .before .before .before .before .before .args .height) (c .before .before .before .before .before .before .before .before .before .before .before .before .before .before .before .before .before .before .before .before .before .before .before .before .before .before .before .before .before .before .before .before .before .before .before .before .before .before .before .args .slots .now) (c .before .before .before .before .before .before .before .before .before .before .before .before .before .before .before .before .before .before .before .before .before .before .before .before .before .before .before .before .before .before .before .before .before .before .before .before .before .before .before .args .places .now)) (breaksIn (c .before .before .before .before .before .before .before .before .before .before .before .before .before .before .before .before .before .before .before .before .before .before .before .before .before .before .before .before .before .before .before .before .before .before .before .before .before .before .before .args .b) (c .before .before .before .before .before .before .before .before .before .before .before .before .before .before .before .before .before .before .before .before .before .before .before .before .before .before .before .before .before .before .before .before .before .before .before .before .before .before .before .args .broken .now) (c .before .before .before .before .before .before .before .before .before .before .before .before .before .before .before .before .before .before .before .before .before .before .before .before .before .before .before .before .before .before .before .before .before .before .before .before .before .before .before .args .held .now)) _ _ (outcomeIn (c .before .before .before .before .before .before .before .before .before .before .before .before .before .before .before .before .before .before .before .before .before .before .before .before .interp-region .result) (c .before .before .before .before .before .before .before .before .before .before .before .before .before .before .before .before .before .before .before .before .before .before .before .before .interp-region .last .1 .1 .1 .0) (c .before .before .before .before .before .before .before .before .before .before .before .before .before .before .before .before .before .before .before .before .before .before .before .before .interp-region .last .1 .1 .1 .1 .0) (c .before .before .before .before .before .before .before .before .before .before .before .before .before .before .before .before .before .before .before .before .before .before .before .before .interp-region .last .1 .1 .1 .1 .1 .0) (c .before .before .before .before .before .before .before .before .before .before .before .before .before .before .before .before .before .before .before .before .before .before .before .before .interp-region .last .1 .1 .1 .1 .1 .1 .0)) (c .before .before .before .before .before .before .before .before .before .before .before .before .before .before .before .before .before .before .before .before .before .before .before .before .before .before .before .before .before .before .before .before .before .before .before .before .before .before .before .args .closer)
+      (c .before .before .before .before .before .before .before .before .before .before .before .before .before .before .before .before .before .before .before .before .before .before .before .before .before .before .before .before .before .before .before .before .before .before .before .before .before .before .before .pre .1 .1 .1 .2) (c .before .before .before .before .before .before .before .before .before .before .before .before .before .before .before .before .before .before .before .before .before .before .before .before .interp-region .ensures .2) (Laws.open-by (c .before .before .before .before .before .before .before .before .before .before .before .before .before .before .before .before .before .before .before .before .before .before .before .before .interp-region .result .flow) (c .before .before .before .before .before .before .before .before .before .before .before .before .before .before .before .before .before .before .match .keys2)) (outcomeIn (c .before .before .before .before .before .before .before .before .before .before .before .interp-region2 .result)
+      (c .before .before .before .before .before .before .before .before .before .before .before .interp-region2 .last .1 .1 .1 .0) (c .before .before .before .before .before .before .before .before .before .before .before .interp-region2 .last .1 .1 .1 .1 .0) (c .before .before .before .before .before .before .before .before .before .before .before .interp-region2 .last .1 .1 .1 .1 .1 .0)
+      (c .before .before .before .before .before .before .before .before .before .before .before .interp-region2 .last .1 .1 .1 .1 .1 .1 .0)) _ (c .before .before .before .before .before .before .before .before .before .before .before .interp-region2 .ensures .2 ∙ ap (λ (z : AnyState). full (Visits.chunkIn (c .before .before .before .before .before .before .before .before .before .before .before .before .before .before .before .before .before .before .before .before .before .before .before .before .before .before .before .before .before .before .before .before .before .before .before .before .before .before .before .args .t .now) (c .before .before .before .before .before .before .before .before .before .before .before .before .before .before .before .before .before .before .before .before .before .before .before .before .before .before .before .before .before .before .before .before .before .before .before .before .before .before .before .args .x)) (c .before .before .before .before .before .before .before .before .before .before .before .before .before .before .before .before .before .before .before .before .before .before .before .before .before .before .before .before .before .before .before .before .before .before .before .before .before .before .before .args .target) (c .before .before .before .before .before .before .before .before .before .before .before .before .before .before .before .before .before .before .before .before .before .before .before .before .before .before .before .before .before .before .before .before .before .before .before .before .before .before .before .args .closer) (c .before .before .before .before .before .before .before .before .before .before .before .before .before .before .before .before .before .before .before .before .before .before .before .before .before .before .before .before .before .before .before .before .before .before .before .before .before .before .before .args .floor) z (Outcomes.breaksOf
+      (c .before .before .before .before .before .before .before .before .before .before .before .before .before .before .before .before .before .before .before .before .before .before .before .before .before .before .before .before .before .before .before .before .before .before .before .before .before .before .before .args .x .locals) (breaksIn (c .before .before .before .before .before .before .before .before .before .before .before .before .before .before .before .before .before .before .before .before .before .before .before .before .interp-region .result .breaks) (c .before .before .before .before .before .before .before .before .before .before .before .before .before .before .before .before .before .before .before .before .before .before .before .before .interp-region .last .1 .1 .1 .1 .1 .0) (c .before .before .before .before .before .before .before .before .before .before .before .before .before .before .before .before .before .before .before .before .before .before .before .before .interp-region .last .1 .1 .1 .1 .1 .1 .0))) (sheetsOf (c .before .before .before .before .before .before .before .before .before .before .before .before .before .before .before .before .before .before .before .before .before .before .before .before .interp-region .last .1 .0)
+      (c .before .before .before .before .before .before .before .before .before .before .before .before .before .before .before .before .before .before .before .before .before .before .before .before .interp-region .last .1 .1 .0))) (c .before .before .before .before .before .before .before .before .before .before .before .before .before .before .before .before .before .before .before .before .before .before .before .before .before .before .before .before .before .before .before .copy .ensures .1)) (Laws.open-by (c .before .before .before .before .before .before .before .before .before .before .before .interp-region2 .result .flow) (c .before .before .before .before .before .match2 .keys2)) (outcomeIn (c .join-ends .result)
+      (c .join-ends .last .0) (c .join-ends .last .1 .0) (c .before .before .before .before .before .before .before .before .before .before .before .interp-region2 .last .1 .1 .1 .1 .1 .0) (c .before .before .before .before .before .before .before .before .before .before .before .interp-region2 .last .1 .1 .1 .1 .1 .1 .0))
+      (c .join-ends .ensures .1 (c .before .before .before .before .before .before .before .before .before .before .before .interp-region2 .last .1 .1 .1 .1 .1 .0) (c .before .before .before .before .before .before .before .before .before .before .before .interp-region2 .last .1 .1 .1 .1 .1 .1 .0) _),
+  (let q = Cycle.two-arms-in (c .before .before .before .before .before .before .before .before .before .before .before .before .before .before .before .before .before .before .before .before .before .before .before .before .before .before .before .before .before .before .before .before .before .before .before .before .before .before .before .args .t .now) (c .before .before .before .before .before .before .before .before .before .before .before .before .before .before .before .before .before .before .before .before .before .before .before .before .before .before .before .before .before .before .before .before .before .before .before .before .before .before .before .args .heights .now)
+      (c .before .before .before .before .before .before .before .before .before .before .before .before .before .before .before .before .before .before .before .before .before .before .before .before .before .before .before .before .before .before .before .before .before .before .before .before .before .before .before .args .blinds .now) (c .before .before .before .before .before .before .before .before .before .before .before .before .before .before .before .before .before .before .before .before .before .before .before .before .before .before .before .before .before .before .before .before .before .before .before .before .before .before .before .args .x) (c .before .before .before .before .before .before .before .before .before .before .before .before .before .before .before .before .before .before .before .before .before .before .before .before .before .before .before .before .before .before .before .before .before .before .before .before .before .before .before .args .target) (c .before .before .before .before .before .before .before .before .before .before .before .before .before .before .before .before .before .before .before .before .before .before .before .before .before .before .before .before .before .before .before .before .before .before .before .before .before .before .before .args .ip) (c .before .before .before .before .before .before .before .before .before .before .before .before .before .before .before .before .before .before .before .before .before .before .before .before .before .before .before .before .before .before .before .before .before .before .before .before .before .before .before .args .end) (c .before .before .before .before .before .before .before .before .before .before .before .before .before .before .before .before .before .before .before .before .before .before .before .before .before .before .before .before .before .before .before .before .before .before .before .before .before .before .before .args .floor) _ _ (c .before .before .before .before .before .before .before .before .before .before .before .before .before .before .before .before .before .before .before .before .before .before .before .before .before .before .before .before .before .before .before .before .before .before .before .before .before .before .before .pre .1 .0) (c .before .before .before .before .before .before .before .before .before .before .before .before .before .before .before .before .before .before .before .before .before .before .before .before .before .before .before .before .before .before .before .before .before .before .before .before .before .before .before .pre .1 .1 .1 .0) (c .before .before .before .before .before .before .before .before .before .before .before .before .before .before .before .before .before .before .before .before .before .before .before .before .before .before .before .before .before .before .before .before .before .before .before .before .before .before .before .pre .1 .1 .1 .1) (c .before .before .before .before .before .before .before .before .before .before .before .before .before .before .before .before .before .before .before .before .before .before .before .before .before .before .before .before .before .before .before .before .before .before .before .before .before .before .before .args .closer) (c .before .before .before .before .before .before .before .before .before .before .before .before .before .before .before .before .before .before .before .before .before .before .before .before .before .before .before .before .before .before .before .before .before .before .before .before .before .before .before .pre .1 .1 .1 .2) in (
+        omega (arith, q .0, q .1),
+        omega (arith, q .2),
+        c .join-ends .ensures .2,
+      )),
+)
 
 pub +block-at+if-at+interp-region+last-pass+loop-at+one-arm+passes-at+two-arms-spec :
     {M : Type 1} → statement M
