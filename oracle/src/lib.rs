@@ -25,6 +25,7 @@ pub mod refusal;
 // The answers.
 pub mod answer;
 pub mod compare;
+pub mod conformance;
 pub mod frame;
 pub mod layout;
 pub mod limits;
@@ -36,7 +37,9 @@ pub mod whole;
 mod bounds;
 mod builder;
 mod chains;
+pub mod choice;
 mod damage;
+pub mod forms;
 pub mod generator;
 mod random;
 pub mod survey;

@@ -489,6 +489,8 @@ fn is_blind(op: &Op, taken: &[Shape]) -> bool {
 pub struct Notes {
     pub counts: BTreeMap<&'static str, u64>,
     pub passes: BTreeMap<usize, u64>,
+    /// Instructions that it examined, on all passes.
+    pub examined: u64,
 }
 
 impl Notes {
@@ -573,6 +575,7 @@ impl<'a> Walk<'a> {
 
     /// Examines an instruction and marks it. Loop, Break and Return need nothing, so tests 12 and 5 pass for them.
     fn examine(&mut self, ip: usize, state: &mut State, floor: usize) -> Result<(), Fault> {
+        self.notes.examined += 1;
         self.marks[ip].height = Some(state.height());
         self.marks[ip].blind |= self.context.examine(ip, state, floor, self.notes)?;
         Ok(())

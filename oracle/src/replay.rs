@@ -2,12 +2,11 @@
 //! runs it.
 
 use crate::answer;
+use crate::choice::{Choice, Class};
 use crate::compare::Expected;
 use crate::generator::{self, Size};
-use crate::listing::{self, MAX_BYTES, MAX_CONSTANTS, MAX_ENTRIES, MAX_OPS, MAX_SLOTS};
-use crate::survey::{self, Survey};
+use crate::listing::{self, MAX_BYTES, MAX_OPS};
 use crate::whole;
-use std::collections::{BTreeMap, BTreeSet};
 
 /// The seed of the generated listings.
 const SEED: u64 = 1;
@@ -117,8 +116,8 @@ pub fn write(entries: &[Entry]) -> Vec<u8> {
 // ── Which generated listings ─────────────────────────────────────────────────────────────
 
 /// Listings of a seed: of each class as many as wanted, and all that reach what no earlier one does. Short ones first.
-fn chosen() -> Vec<Vec<u8>> {
-    let mut choice = Choice { missing: survey::wanted(Size::Any).into_iter().collect(), ..Choice::default() };
+pub fn chosen() -> Vec<Vec<u8>> {
+    let mut choice = Choice::new(wanted, 1);
     for number in 0..SHORT_AMONG {
         let listing = generator::listing(SEED, number, Size::Any);
         if listing.len() <= SHORT_BYTES {
@@ -135,65 +134,15 @@ fn chosen() -> Vec<Vec<u8>> {
     choice.listings
 }
 
-#[derive(Default)]
-struct Choice {
-    listings: Vec<Vec<u8>>,
-    classes: BTreeMap<String, usize>,
-    /// What a full survey must reach and no listing so far does.
-    missing: BTreeSet<String>,
-}
-
-impl Choice {
-    fn offer(&mut self, listing: Vec<u8>) {
-        let (class, wanted) = class(&listing);
-        let have = self.classes.entry(class).or_default();
-        let is_wanted = *have < wanted;
-        // What a listing reaches is costly to find out.
-        if !is_wanted && self.missing.is_empty() {
-            return;
-        }
-        let reached = Survey::of(&listing).reached();
-        if is_wanted || !reached.is_disjoint(&self.missing) {
-            *have += 1;
-            self.missing.retain(|what| !reached.contains(what));
-            self.listings.push(listing);
-        }
+/// How many of a class are wanted: the large ones are few.
+fn wanted(class: &Class) -> usize {
+    match class {
+        Class::Accepted(5) => 25,
+        Class::Accepted(20 | 60) => 50,
+        Class::Accepted(600) => 12,
+        Class::Accepted(MAX_OPS) | Class::Overfull(_) => 1,
+        Class::Accepted(_) => 2,
+        Class::Refused(kind) if kind == "refused  2, limit 1" => 1,
+        Class::Refused(_) => 13,
     }
-}
-
-/// A listing's class, and how many of it are wanted: the large ones are few.
-fn class(bytes: &[u8]) -> (String, usize) {
-    match whole::check(bytes) {
-        Ok(marks) => match marks.iter().map(Vec::len).sum() {
-            0..=5 => ("accepted, up to 5 instructions".to_string(), 25),
-            6..=20 => ("accepted, up to 20 instructions".to_string(), 50),
-            21..=60 => ("accepted, up to 60 instructions".to_string(), 50),
-            61..=600 => ("accepted, up to 600 instructions".to_string(), 12),
-            601..MAX_OPS => ("accepted, over 600 instructions".to_string(), 2),
-            _ => ("accepted, 4,096 instructions".to_string(), 1),
-        },
-        Err(refusal) => match refusal.passed_limit() {
-            Some(1) => (refusal.kind(), 1),
-            Some(2) => (format!("{}, {}", refusal.kind(), overfull(bytes)), 1),
-            _ => (refusal.kind(), 13),
-        },
-    }
-}
-
-/// The table that a listing overfills.
-fn overfull(bytes: &[u8]) -> &'static str {
-    let tables = [
-        ("(slot ", MAX_SLOTS),
-        ("(shared ", MAX_SLOTS),
-        ("(private ", MAX_SLOTS),
-        ("(enum ", MAX_ENTRIES),
-        ("(native ", MAX_ENTRIES),
-        ("(sig ", MAX_ENTRIES),
-        ("(chunk ", MAX_ENTRIES),
-        ("(const ", MAX_CONSTANTS),
-        ("(op ", MAX_OPS),
-    ];
-    let lines =
-        |word: &str| bytes.split(|byte| *byte == b'\n').filter(|line| line.starts_with(word.as_bytes())).count();
-    tables.into_iter().find(|(word, most)| lines(word) > *most).map_or("parameters", |(word, _)| word)
 }

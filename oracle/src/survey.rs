@@ -40,7 +40,7 @@ pub fn survey(seed: u64, count: u64, size: Size) -> Survey {
 }
 
 impl Survey {
-    fn add(&mut self, number: u64, bytes: &[u8]) {
+    pub fn add(&mut self, number: u64, bytes: &[u8]) {
         let listing = match listing::read(bytes) {
             Ok(listing) => listing,
             Err(refusal) => return self.count_refusal(&refusal),
@@ -136,6 +136,11 @@ impl Survey {
         let met = self.notes.counts.keys().map(|what| what.to_string());
         let passes = self.notes.passes.keys().copied().map(loop_with);
         answers.chain(self.ops.keys().cloned()).chain(met).chain(passes).collect()
+    }
+
+    /// Instructions that the walk examined, on all passes.
+    pub fn examined(&self) -> u64 {
+        self.notes.examined
     }
 
     /// What a full survey must reach and this one did not.
