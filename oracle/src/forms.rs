@@ -1,9 +1,10 @@
 //! Listings that are made by rule and not by chance: lines at the ends of their ranges and past them, each line at each
-//! place, each op with the operands that it needs and with one fewer, listings cut at every byte.
+//! place, full tables, listings cut at every byte; each op with the operands that it needs and with one fewer, and what it
+//! pushes; and chunks and modules about single sentences of document 01.
 
 use crate::bytecode::{Chunk, Op};
 use crate::form::Cursor;
-use crate::listing::MAX_BYTES;
+use crate::listing::{MAX_BYTES, MAX_CONSTANTS, MAX_ENTRIES, MAX_SLOTS};
 use crate::verify::op_depth_effect;
 use std::collections::BTreeSet;
 
@@ -12,9 +13,12 @@ pub fn listings() -> Vec<Vec<u8>> {
     let mut texts = lines();
     texts.extend(places());
     texts.extend(cuts());
+    texts.extend(full_tables());
+    texts.extend(about_one_sentence());
     for form in op_forms() {
         texts.extend(form.ranges());
         texts.extend(form.needs());
+        texts.extend(form.pushes());
     }
     texts.extend([long(1), long(10)]);
     texts.into_iter().map(String::into_bytes).collect()
@@ -133,6 +137,28 @@ impl OpForm {
     }
 }
 
+impl OpForm {
+    /// What the op pushes, one listing for each operand of each kind: it is packed alone with a size that no scalar has, and
+    /// the refusal tells its width.
+    fn pushes(&self) -> Vec<String> {
+        let mut seen = BTreeSet::new();
+        let mut texts = Vec::new();
+        for Effect { operands, need, net } in self.effects() {
+            // The kind that a flat form names is its last operand.
+            let kind = operands.last().filter(|_| self.text.contains(" Flat")).copied();
+            if STRUCTURAL.contains(&self.text.as_str()) || need > 3 || !seen.insert((need, net, kind)) {
+                continue;
+            }
+            for above in 0..(need as i32 + net) as usize {
+                let op = with(&self.text, &operands);
+                let packed = ["NewComposite Flat 0 1 60000".to_string(), "Return".to_string()];
+                texts.push(chunk(&[pushes(need), vec![op, format!("PopN {above}")], packed.to_vec()].concat()));
+            }
+        }
+        texts
+    }
+}
+
 fn pushes(count: usize) -> Vec<String> {
     vec!["PushImmediate 1".to_string(); count]
 }
@@ -158,11 +184,18 @@ const HEADS: &str = include_str!("forms/heads");
 const ENTRIES: &str = include_str!("forms/entries");
 /// Lines in a chunk, its first among them.
 const IN_CHUNK: &str = include_str!("forms/in_chunk");
+/// Ops of a chunk with two locals and the constants Text, Int and Byte.
+const CHUNKS: &str = include_str!("forms/chunks");
+/// Modules but for their first and last lines.
+const MODULES: &str = include_str!("forms/modules");
 
-/// Each line of the three tables in a listing that is whole but for it. In a table `\t`, `\r` and `\0` stand for the
-/// bytes that they name, and `\n` for an LF within the line.
+/// A table's lines. `\t`, `\r` and `\0` stand for the bytes that they name, and `\n` for an LF within the line.
+fn table(text: &'static str) -> impl Iterator<Item = String> {
+    text.lines().map(|line| line.replace("\\t", "\t").replace("\\r", "\r").replace("\\0", "\0").replace("\\n", "\n"))
+}
+
+/// Each line of the three tables in a listing that is whole but for it.
 fn lines() -> Vec<String> {
-    let table = |text: &'static str| text.lines().map(unescaped);
     let heads = table(HEADS).map(|line| format!("{line}\n(chunk 0\n)\n)\n"));
     let entries = table(ENTRIES).map(|line| format!("{HEAD}{line}\n(chunk 0\n)\n)\n"));
     let in_chunk = table(IN_CHUNK).map(|line| match line.starts_with("(chunk") {
@@ -172,8 +205,38 @@ fn lines() -> Vec<String> {
     heads.chain(entries).chain(in_chunk).collect()
 }
 
-fn unescaped(line: &str) -> String {
-    line.replace("\\t", "\t").replace("\\r", "\r").replace("\\0", "\0").replace("\\n", "\n")
+/// Chunks and modules about single sentences of document 01.
+fn about_one_sentence() -> Vec<String> {
+    let chunks = table(CHUNKS).map(|ops| {
+        let lines: String = ops.split(", ").map(|op| format!("(op {op})\n")).collect();
+        format!("(module 8 4 4 0 0 8 9\n(chunk 2\n(const 6)\n(const 3)\n(const 2)\n{lines})\n)\n")
+    });
+    chunks.chain(table(MODULES).map(|module| format!("{HEAD}{module}\n)\n"))).collect()
+}
+
+/// Each table with all that it has room for, and with one more. The instructions are too many bytes to be here: generated
+/// listings have both.
+fn full_tables() -> Vec<String> {
+    let mut texts = Vec::new();
+    for more in 0..2 {
+        let lines = |line: &str, count: usize| line.repeat(count);
+        let shared = lines("(slot shared)\n", MAX_SLOTS);
+        let numbered: String = (0..MAX_SLOTS + more).map(|slot| format!("(private {slot} {slot})\n")).collect();
+        let constants = lines("(const 0)\n", MAX_CONSTANTS - 1);
+        let bodies = [
+            lines("(slot private)\n", MAX_SLOTS + more),
+            shared.clone() + &lines("(shared 0 0 0)\n", MAX_SLOTS + more),
+            lines("(slot private)\n", MAX_SLOTS) + &numbered,
+            lines("(enum 0)\n", MAX_ENTRIES + more),
+            lines("(native (top))\n", MAX_ENTRIES + more),
+            lines("(sig (top) (top))\n", MAX_ENTRIES + more),
+            lines("(chunk 0\n)\n", MAX_ENTRIES + more),
+            lines("(chunk 0\n)\n", MAX_ENTRIES - 1 + more) + "(chunk 33\n)\n",
+            format!("(chunk 0\n{constants})\n(chunk 0\n{})\n", lines("(const 0)\n", 1 + more)),
+        ];
+        texts.extend(bodies.map(|body| format!("(module 8 8 6 0 256 8 9\n{body})\n")));
+    }
+    texts
 }
 
 /// A listing with a line of each form.
