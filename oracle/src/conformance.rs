@@ -119,9 +119,10 @@ impl Kit {
         }
         match answer(listing) {
             Answer::BeyondLimit(_) | Answer::BeyondCodes => {}
-            answer if expected.lines().next() == Some(&answer.to_string()) => self.with_original += 1,
+            answer if expected.lines().next() == Some(&answer.to_string()) => {}
             answer => self.faults.push(format!("{name}: the original says {answer}")),
         }
+        self.with_original += u64::from(replay::original(listing).is_some());
     }
 
     /// What the fixed kit must have and these listings do not.

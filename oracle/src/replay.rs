@@ -90,7 +90,7 @@ fn instructions(listing: &[u8]) -> usize {
 }
 
 /// The words of the original's answer, where it is asked and the listing is not left out.
-fn original(listing: &[u8]) -> Option<Vec<u64>> {
+pub fn original(listing: &[u8]) -> Option<Vec<u64>> {
     answer::answer(listing).words().filter(|words| !(1..=3).contains(&words[0]))
 }
 
