@@ -37,9 +37,9 @@ const STRUCTURAL: [&str; 7] = ["If", "Else", "EndIf", "Loop", "EndLoop", "Break"
 
 fn op_of(text: &str) -> Option<Op> {
     let mut cursor = Cursor::new(text.as_bytes());
-    let name = cursor.word()?;
-    let op = Op::read(name, &mut cursor)?;
-    cursor.end().map(|()| op)
+    let mut ops = Vec::new();
+    Op::read(&mut cursor, &mut ops)?;
+    ops.pop().filter(|_| cursor.bytes_left() == 0)
 }
 
 /// Every form that the reader reads, found by trying.
