@@ -109,17 +109,18 @@ enum stagecheck_number {
     STAGECHECK_BRANCH_HEIGHT_MISMATCH = 10,
     /* A loop's body does not end at the height at which it began. ip: the Loop. */
     STAGECHECK_LOOP_NOT_NEUTRAL = 11,
-    /* In a loop that was entered at height `floor`, an instruction that takes `required` operands finds `available`:
-     * it would take some from below the floor. */
+    /* In a loop that was entered at height `floor`, over 0, an instruction that needs `required` operands finds
+     * `available` in all, those below the floor included: fewer than floor + required. */
     STAGECHECK_LOOP_FLOOR_BREACH = 12,
-    /* A value of another shape is stored to a parameter. slot: the local. */
+    /* A value that does not fit is stored to a parameter: a scalar where a composite is declared, or the other way, or
+     * a composite of another kind or size. slot: the SetLocal's operand, which may lie past the locals. */
     STAGECHECK_LOCAL_TYPE_MISMATCH = 13,
-    /* A call passes a value of another shape than declared. callee: the signature; arg: the argument, from 0. */
+    /* A call passes a value that does not fit its parameter, as in 13. callee: the signature; arg: the argument, from 0. */
     STAGECHECK_CALL_ARG_MISMATCH = 14,
     /* Elements of `element_size` bytes do not divide an array of `array_size`. */
     STAGECHECK_ARRAY_STRIDE_MISMATCH = 15,
-    /* A shared entry ends past the shared bytes. slot: the entry; buffer: the shared bytes. size is 0 where KIND is no
-     * scalar and no composite. */
+    /* A shared entry ends past the shared bytes, or its KIND, 8 to 127, is no scalar and no composite; then size is 0.
+     * slot: the entry; buffer: the shared bytes. */
     STAGECHECK_SHARED_SLOT_OUT_OF_BOUNDS = 16,
     /* A new enum says `baked` bytes, which no enum line allows. */
     STAGECHECK_ENUM_BODY_SIZE_MISMATCH = 17,
