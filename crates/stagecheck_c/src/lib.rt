@@ -4,6 +4,9 @@ ghost use lib.ListN.{length};
 ghost use Rattle.definition.specs.Check.{check};
 ghost use Rattle.typed_check.specs.Equal.{Sound};
 ghost use Rattle.stagecheck_c.specs.Row.{Given};
+ghost use Rattle.definition.specs.Printed.{printed};
+ghost use Rattle.printed.specs.Writes.{Holds};
+use printed::ROOM;
 
 // The words of an answer, into words that the caller lends.
 fn give(words: [u64; 8], out: &mut [u64])
@@ -50,4 +53,36 @@ pub extern "C" fn stagecheck_check(
 {
     let mut tables = [0u64; 22232];
     stagecheck_check_in(listing, &mut tables, heights, blinds, answer)
+}
+
+// The text that the program `stagecheck` prints for any bytes; answers its length.
+#[no_mangle]
+pub extern "C" fn stagecheck_text(listing: &[u8], text: &mut [u8; ROOM]) -> usize
+    ensures { λ r. ⌜ Holds (now (text .exit)) r (printed (now (listing .entry))) ⌝ }
+{
+    stagecheck_text::check_text(listing, text)
+}
+
+// Words for an answer; answers the length of the whole text, of which as much is written as there is room for.
+#[no_mangle]
+pub extern "C" fn stagecheck_explain(
+    listing: &[u8],
+    heights: &[u8],
+    blinds: &[u8],
+    answer: &[u64; 8],
+    text: &mut [u8],
+) -> usize {
+    explain::explain(listing, heights, blinds, answer, text)
+}
+
+// The line at fault, counted from 1; 0 where none is.
+#[no_mangle]
+pub extern "C" fn stagecheck_line(listing: &[u8], answer: &[u64; 8]) -> usize {
+    explain::line_of(listing, answer)
+}
+
+// The name that goes with word 0 of an answer.
+#[no_mangle]
+pub extern "C" fn stagecheck_name(number: u64, text: &mut [u8]) -> usize {
+    explain::name_of(number, text)
 }
