@@ -1,0 +1,39 @@
+-- `explain::put::first_place` meets its contract. The place value is never 0, and grows up to n. Assumes nothing.
+use mathlib.Core.Path.{_≡_}
+use Prim.Native.Nat.{_≤_, _<_, _-_}
+use lib.ListN.{length}
+use Rattle.explain.proofs.put.first_place.Statement.{statement}
+use Rattle.explain.proofs.put.first_place.Tie as tie
+use Rattle.explain.proofs.put.first_place.Reads as reads
+use Rattle.explain.proofs.put.first_place.Lts as lts
+use borrow.Author.Needs.{needs}
+
+abbrev Inv-loop : tie.InvT-loop
+Inv-loop n p₀ p = 0 < p
+
+abbrev μ-loop : tie.MeasureT-loop
+μ-loop n p₀ p = n - p
+
+-- src/put.rt:39:5
+loop-holds : tie.Need-loop-holds Inv-loop μ-loop
+loop-holds c = search needs
+
+-- src/put.rt:40:13
+mul-p : tie.Need-mul-p Inv-loop μ-loop
+mul-p c = search needs
+
+-- src/put.rt:39:5
+loop-less : tie.Need-loop-less Inv-loop μ-loop
+loop-less c = search needs
+
+-- src/put.rt:39:5
+loop-again : tie.Need-loop-again Inv-loop μ-loop
+loop-again c = search needs
+
+-- src/put.rt:35:1
+returns : tie.Need-returns Inv-loop μ-loop
+returns c = search needs
+
+pub first-place-spec : {M : Type 1} → statement M
+first-place-spec =
+    tie.close (tie.spec Inv-loop μ-loop loop-holds mul-p loop-less loop-again returns)
