@@ -1,5 +1,6 @@
 // Words for an answer of the check, for people. Each function takes any bytes and any words, writes as much of its text as fits, and answers the
-// length of the whole. A row of a table below is filled with the answer's words as put::row says.
+// length of the whole.
+ghost use Prim.Native.Nat.{_≤_};
 mod lines;
 mod put;
 use lines::Place;
@@ -7,9 +8,9 @@ use lines::Wanted;
 
 const LF: u8 = b'\n';
 
-// Row K for refusal K: its name, a colon and a sentence; row 0 for numbers that are not known. Where the sentence hangs on more than the number
-// the row ends with the colon, and put_case goes on.
-fn put_refusal(text: &mut [u8], at: usize, stop: u8, answer: &[u64; 8]) -> usize {
+// Row K for refusal K: its name, a colon and a sentence, filled with the words as put::row says; row 0 for numbers that are not known. Where the
+// sentence hangs on more than the number the row ends with the colon, and case_row says which row of put_case goes on.
+fn put_refusal(text: &mut [u8], at: usize, stop: u8, words: &[u64; 8]) -> usize {
     put::row(
         text,
         at,
@@ -33,161 +34,136 @@ fn put_refusal(text: &mut [u8], at: usize, stop: u8, answer: &[u64; 8]) -> usize
         EnumBodySizeMismatch: no enum line allows an enum of #3 byte~3; its size is that of a word plus MIN\n\
         PrivateCompositeLayoutInvalid: \n\
         SharedLayoutCountMismatch: \n",
-        answer[0] as usize,
+        words[0] as usize,
         stop,
-        answer,
+        words,
     )
+}
+
+// The rows of put_case. A group begins with the row for what is not known.
+const WHOLE: usize = 0;
+
+const FOLLOW: usize = 1;
+
+const LIMIT: usize = 5;
+
+const NO_TABLE: usize = 12;
+
+const PARAMETERS: usize = 13;
+
+const NO_KIND: usize = 14;
+
+const PAST_THE_END: usize = 15;
+
+const PRIVATE: usize = 16;
+
+const COUNTS: usize = 21;
+
+const WHEREABOUTS: usize = 24;
+
+const ACCEPTED: usize = 25;
+
+const BLIND: usize = 26;
+
+const HEAD: usize = 27;
+
+// Word 7 is the room of a table.
+fn put_case(text: &mut [u8], at: usize, row: usize, words: &[u64; 8]) -> usize {
+    let next = put::row(
+        text,
+        at,
+        b"\n\
+        the listing ends after #2 line~2, before the `)` that closes the module\n\
+        the listing ends within this line, and each line has to end with a line feed\n\
+        a listing begins with a line `(module W F A S P I H`, and this is none\n\
+        this line cannot follow the #2 line~2 before it: its form, a number in it or its place is wrong\n\
+        this check knows no limit #3\n\
+        the listing has more than 65,536 bytes\n\
+        a listing has at most #7 lines of this form, those of all chunks together\n\
+        a chunk has at most 32 locals\n\
+        this opens a ninth block, and at most 8 may be open at once\n\
+        more than 64 operands are there after this instruction\n\
+        the new composite has texts at more than 16 places\n\
+        a listing has too many lines of one form\n\
+        a signature has at most 16 parameters\n\
+        the KIND of this entry is neither that of a scalar nor that of a composite\n\
+        this entry has #4 byte~4 from byte #3 on, and there are #5 shared byte~5\n\
+        this check knows no reason #4\n\
+        there is no slot #3\n\
+        the offset of this entry is outside the persistent pool\n\
+        slot #3 is not above the slot of the entry before\n\
+        the offset of this entry is not above that of the entry before\n\
+        this check knows no reason #4\n\
+        a shared slot stands after a private one, and all shared slots come first\n\
+        #2 slot~2 shared and #3 shared line~3: each shared slot needs one such line\n\
+        chunk #1, instruction #2, both counted from 0\n\
+        accepted: #1 chunk~1, #2 instruction~2\n\
+        #7 blind read~7: the shape of what is read is not known there, so the check says nothing of it\n   \
+        line  height  mark   listing\n",
+        row,
+        LF,
+        words,
+    );
+    put::byte(text, next, LF)
+}
+
+// Row k of the group, if it has so many.
+fn in_group(group: usize, k: u64, most: u64) -> usize
+    requires { ⌜ (group ≤ 100) × (most ≤ 100) ⌝ }
+{
+    if k <= most {
+        return group + (k as usize);
+    }
+    group
 }
 
 fn follow_row(listing: &[u8], place: Place, answer: &[u64; 8]) -> usize {
     let from = place.from;
     if place.line == 0 {
-        return 0;
+        return FOLLOW;
     }
     if listing.len() <= lines::end_of(listing, from) {
-        return 1;
+        return FOLLOW + 1;
     }
-    if answer[2] == 0 { 2 } else { 3 }
+    if answer[2] == 0 {
+        return FOLLOW + 2;
+    }
+    FOLLOW + 3
 }
 
-// The sentences of refusal 1.
-fn put_follow(text: &mut [u8], at: usize, row: usize, answer: &[u64; 8]) -> usize {
-    put::row(
-        text,
-        at,
-        b"the listing ends after #2 line~2, before the `)` that closes the module\n\
-        the listing ends within this line, and each line has to end with a line feed\n\
-        a listing begins with a line `(module W F A S P I H`, and this is none\n\
-        this line cannot follow the #2 line~2 before it: its form, a number in it or its place is wrong\n",
-        row,
-        LF,
-        answer,
-    )
-}
-
-// Row K for limit K of refusal 2.
-fn put_limit(text: &mut [u8], at: usize, answer: &[u64; 8]) -> usize {
-    put::row(
-        text,
-        at,
-        b"this check knows no limit #3\n\
-        the listing has more than 65,536 bytes\n\
-        a table is full: \n\
-        a chunk has at most 32 locals\n\
-        this opens a ninth block, and at most 8 may be open at once\n\
-        more than 64 operands are there after this instruction\n\
-        the new composite has texts at more than 16 places\n",
-        answer[3] as usize,
-        LF,
-        answer,
-    )
-}
-
-// What limit 2 is for the line at fault: row 1 on for lines::sort_of, and the last for a signature's parameters.
-fn put_table(text: &mut [u8], at: usize, row: usize, answer: &[u64; 8]) -> usize {
-    put::row(
-        text,
-        at,
-        b"a listing has too many lines of one form\n\
-        a listing has at most 256 slots\n\
-        a listing has at most 256 slots\n\
-        a listing has at most 256 shared entries\n\
-        a listing has at most 256 private entries\n\
-        a listing has at most 64 enums\n\
-        a listing has at most 64 natives\n\
-        a listing has at most 64 signatures\n\
-        a listing has at most 64 chunks\n\
-        a listing has at most 1,024 constants, of all chunks\n\
-        a listing has at most 4,096 instructions, of all chunks\n\
-        a signature has at most 16 parameters\n",
-        row,
-        LF,
-        answer,
-    )
-}
-
-fn table_row(listing: &[u8], place: Place) -> usize {
+fn limit_row(listing: &[u8], place: Place, answer: &[u64; 8]) -> usize {
     let from = place.from;
+    if answer[3] != 2 {
+        return in_group(LIMIT, answer[3], 6);
+    }
     if place.line == 0 {
-        return 0;
+        return NO_TABLE;
     }
-    let sort = lines::sort_of(listing, from);
-    if lines::parameters_over(listing, from, sort) {
-        return 11;
+    if lines::has_parameters_over(listing, from, lines::sort_of(listing, from)) {
+        return PARAMETERS;
     }
-    sort + 1
+    LIMIT + 2
 }
 
-// Refusal 16. Where the entry ends in time its kind is at fault.
-fn put_shared(text: &mut [u8], at: usize, answer: &[u64; 8]) -> usize {
+// Where a shared entry ends in time its kind is at fault.
+fn shared_row(answer: &[u64; 8]) -> usize {
     if answer[4] == 0 {
         if answer[3] <= answer[5] {
-            return put::bytes(text, at, b"the KIND of this entry is not that of a scalar or a composite");
+            return NO_KIND;
         }
     }
-    put::row(
-        text,
-        at,
-        b"this entry has #4 byte~4 from byte #3 on, and there are #5 shared byte~5\n",
-        0,
-        LF,
-        answer,
-    )
+    PAST_THE_END
 }
 
-// Row K for reason K of refusal 18.
-fn put_private(text: &mut [u8], at: usize, answer: &[u64; 8]) -> usize {
-    put::row(
-        text,
-        at,
-        b"this check knows no reason #4\n\
-        there is no slot #3\n\
-        the offset of this entry is outside the persistent pool\n\
-        slot #3 is not above the slot of the entry before\n\
-        the offset of this entry is not above that of the entry before\n",
-        answer[4] as usize,
-        LF,
-        answer,
-    )
-}
-
-// Row K for reason K of refusal 19.
-fn put_counts(text: &mut [u8], at: usize, answer: &[u64; 8]) -> usize {
-    put::row(
-        text,
-        at,
-        b"this check knows no reason #4\n\
-        a shared slot stands after a private one, and all shared slots come first\n\
-        there are #2 slot~2 that are shared, and #3 shared line~3; each slot needs its line\n",
-        answer[4] as usize,
-        LF,
-        answer,
-    )
-}
-
-// What the number alone does not say.
-fn put_case(text: &mut [u8], at: usize, listing: &[u8], place: Place, answer: &[u64; 8]) -> usize {
-    let number = answer[0];
-    if number == 1 {
-        return put_follow(text, at, follow_row(listing, place, answer), answer);
+fn case_row(listing: &[u8], place: Place, answer: &[u64; 8]) -> usize {
+    match answer[0] {
+        1 => follow_row(listing, place, answer),
+        2 => limit_row(listing, place, answer),
+        16 => shared_row(answer),
+        18 => in_group(PRIVATE, answer[4], 4),
+        19 => in_group(COUNTS, answer[4], 2),
+        _ => WHOLE,
     }
-    if number == 2 {
-        let next = put_limit(text, at, answer);
-        if answer[3] == 2 {
-            return put_table(text, next, table_row(listing, place), answer);
-        }
-        return next;
-    }
-    if number == 16 {
-        return put_shared(text, at, answer);
-    }
-    if number == 18 {
-        return put_private(text, at, answer);
-    }
-    if number == 19 {
-        return put_counts(text, at, answer);
-    }
-    at
 }
 
 fn limit_line(answer: &[u64; 8]) -> Wanted {
@@ -227,41 +203,38 @@ pub fn name_of(number: u64, text: &mut [u8]) -> usize {
 }
 
 // `line N: ` and the line.
-fn put_place(text: &mut [u8], at: usize, listing: &[u8], place: Place) -> usize {
+fn put_place(text: &mut [u8], listing: &[u8], place: Place) -> usize {
     let line = place.line;
     let from = place.from;
     if line == 0 {
-        return at;
+        return 0;
     }
-    let next = put::bytes(text, at, b"line ");
-    let next = put::number(text, next, line as u64);
+    let next = put::bytes(text, 0, b"line ");
+    let next = put::number(text, next, line as u64, 1);
     let next = put::bytes(text, next, b": ");
-    put_line(text, next, listing, from)
+    put::line(text, next, listing, from)
 }
 
-fn put_whereabouts(text: &mut [u8], at: usize, w: Wanted, answer: &[u64; 8]) -> usize {
+fn is_instruction(w: Wanted) -> bool {
     let Wanted::Instruction(_, _) = w else {
-        return at;
+        return false;
     };
-    let next = put::row(
-        text,
-        at,
-        b"chunk #1, instruction #2, both counted from 0\n",
-        0,
-        LF,
-        answer,
-    );
-    put::byte(text, next, LF)
+    true
 }
 
 fn put_refused(text: &mut [u8], listing: &[u8], answer: &[u64; 8]) -> usize {
     let w = wanted(answer);
     let place = lines::find(listing, w);
-    let next = put_place(text, 0, listing, place);
-    let next = put_refusal(text, next, LF, answer);
-    let next = put_case(text, next, listing, place, answer);
-    let next = put::byte(text, next, LF);
-    put_whereabouts(text, next, w, answer)
+    let from = place.from;
+    let mut words = *answer;
+    words[7] = lines::room_of(lines::sort_of(listing, from)) as u64;
+    let next = put_place(text, listing, place);
+    let next = put_refusal(text, next, LF, &words);
+    let next = put_case(text, next, case_row(listing, place, answer), &words);
+    if is_instruction(w) {
+        return put_case(text, next, WHEREABOUTS, &words);
+    }
+    next
 }
 
 // An entry of a sheet; past the end it is 0.
@@ -279,28 +252,11 @@ fn marked(sheet: &[u8]) -> usize {
     n
 }
 
-fn put_blind_reads(text: &mut [u8], at: usize, blinds: &[u8]) -> usize {
-    let n = marked(blinds);
-    if n == 0 {
-        return at;
-    }
-    let words = [n as u64, 0, 0, 0, 0, 0, 0, 0];
-    let next = put::row(
-        text,
-        at,
-        b"#0 blind read~0: the shape of what is read is not known there, so the check says nothing of it\n",
-        0,
-        LF,
-        &words,
-    );
-    put::byte(text, next, LF)
-}
-
 fn put_height(text: &mut [u8], at: usize, h: u8) -> usize {
     if h == 0 {
         return put::bytes(text, at, b"       -");
     }
-    put::column(text, at, (h - 1) as u64, 10000000)
+    put::number(text, at, (h - 1) as u64, 10000000)
 }
 
 // Beside an instruction its height and mark, beside any other line as much space.
@@ -315,11 +271,6 @@ fn put_marks(text: &mut [u8], at: usize, is_instruction: bool, h: u8, b: u8) -> 
     put::bytes(text, at, b"                 ")
 }
 
-fn put_line(text: &mut [u8], at: usize, listing: &[u8], from: usize) -> usize {
-    let next = put::line(text, at, listing, from);
-    put::byte(text, next, LF)
-}
-
 fn put_lines(text: &mut [u8], at: usize, listing: &[u8], heights: &[u8], blinds: &[u8]) -> usize {
     let mut next = at;
     let mut lines = 0;
@@ -331,9 +282,9 @@ fn put_lines(text: &mut [u8], at: usize, listing: &[u8], heights: &[u8], blinds:
         let b = entry(blinds, instructions);
         lines = put::after(lines);
         instructions = put::counted(instructions, is_instruction);
-        next = put::column(text, next, lines as u64, 1000000);
+        next = put::number(text, next, lines as u64, 1000000);
         next = put_marks(text, next, is_instruction, h, b);
-        next = put_line(text, next, listing, from);
+        next = put::line(text, next, listing, from);
         let end = lines::end_of(listing, from);
         if listing.len() <= end {
             return next;
@@ -343,18 +294,19 @@ fn put_lines(text: &mut [u8], at: usize, listing: &[u8], heights: &[u8], blinds:
     next
 }
 
+fn put_blind_reads(text: &mut [u8], at: usize, blinds: &[u8]) -> usize {
+    let n = marked(blinds);
+    if n == 0 {
+        return at;
+    }
+    let words = [0, 0, 0, 0, 0, 0, 0, n as u64];
+    put_case(text, at, BLIND, &words)
+}
+
 fn put_accepted(text: &mut [u8], listing: &[u8], heights: &[u8], blinds: &[u8], answer: &[u64; 8]) -> usize {
-    let next = put::row(
-        text,
-        0,
-        b"accepted: #1 chunk~1, #2 instruction~2\n",
-        0,
-        LF,
-        answer,
-    );
-    let next = put::byte(text, next, LF);
+    let next = put_case(text, 0, ACCEPTED, answer);
     let next = put_blind_reads(text, next, blinds);
-    let next = put::bytes(text, next, b"   line  height  mark   listing\n");
+    let next = put_case(text, next, HEAD, answer);
     put_lines(text, next, listing, heights, blinds)
 }
 

@@ -93,25 +93,11 @@ pub fn sort_of(listing: &[u8], from: usize) -> usize
     OTHER
 }
 
-fn brackets_over(listing: &[u8], from: usize) -> bool {
-    let mut n = 0;
-    let mut i = from;
-    while i < listing.len() {
-        let b = listing[i];
-        if b == LF {
-            return false;
-        }
-        n = put::counted(n, b == b'(');
-        if MOST_BRACKETS < n {
-            return true;
-        }
-        i += 1;
+// Of a sig line how many brackets it opens, of a chunk line the number of its locals, after one byte more. Large numbers stay.
+fn with_byte(n: usize, b: u8, sort: usize) -> usize {
+    if sort == SIG {
+        return put::counted(n, b == b'(');
     }
-    false
-}
-
-// A number with one digit more; large ones stay.
-fn with_digit(n: usize, b: u8) -> usize {
     if b < b'0' {
         return n;
     }
@@ -124,49 +110,52 @@ fn with_digit(n: usize, b: u8) -> usize {
     n * 10 + ((b - b'0') as usize)
 }
 
-fn locals_over(listing: &[u8], from: usize) -> bool {
+fn value_of(listing: &[u8], from: usize, sort: usize) -> usize {
     let mut n = 0;
     let mut i = from;
     while i < listing.len() {
         let b = listing[i];
         if b == LF {
-            return MOST_LOCALS < n;
+            return n;
         }
-        n = with_digit(n, b);
+        n = with_byte(n, b, sort);
         i += 1;
     }
-    false
+    n
 }
 
-// Of a sig line: that it has more than 16 parameters.
-pub fn parameters_over(listing: &[u8], from: usize, sort: usize) -> bool {
+pub fn has_parameters_over(listing: &[u8], from: usize, sort: usize) -> bool {
     if sort == SIG {
-        return brackets_over(listing, from);
+        return MOST_BRACKETS < value_of(listing, from, SIG);
     }
     false
 }
 
-fn sum(a: usize, b: usize) -> usize {
-    if a < 18446744073709551615 - b { a + b } else { 18446744073709551615 }
+fn has_locals_over(listing: &[u8], from: usize, sort: usize) -> bool {
+    if sort == CHUNK {
+        return MOST_LOCALS < value_of(listing, from, CHUNK);
+    }
+    false
 }
 
-// How many lines stand in the table of a sort.
-fn held(counts: &[usize; 12], sort: usize) -> usize
+// How many lines of its sort a listing may have.
+pub fn room_of(sort: usize) -> usize
     requires { ⌜ sort ≤ 10 ⌝ }
 {
-    if sort <= SLOT_PRIVATE {
-        return sum(counts[SLOT_SHARED], counts[SLOT_PRIVATE]);
-    }
-    counts[sort]
+    ROOMS[sort]
 }
 
 fn overfills(listing: &[u8], from: usize, sort: usize, counts: &[usize; 12]) -> bool
     requires { ⌜ sort ≤ 10 ⌝ }
 {
-    if ROOMS[sort] <= held(counts, sort) {
+    let room = room_of(sort);
+    if room <= counts[sort] {
         return true;
     }
-    parameters_over(listing, from, sort)
+    if sort <= SLOT_PRIVATE {
+        return room - counts[sort] <= counts[1 - sort];
+    }
+    has_parameters_over(listing, from, sort)
 }
 
 // Which line an answer means.
@@ -210,13 +199,6 @@ fn is_late(sort: usize, counts: &[usize; 12]) -> bool {
         return false;
     }
     0 < counts[SLOT_PRIVATE]
-}
-
-fn has_locals_over(listing: &[u8], from: usize, sort: usize) -> bool {
-    if sort == CHUNK {
-        return locals_over(listing, from);
-    }
-    false
 }
 
 // The line at `from`, with the counts of the lines before it.

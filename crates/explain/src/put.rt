@@ -34,15 +34,16 @@ pub fn bytes(text: &mut [u8], at: usize, bytes: &[u8]) -> usize {
     next
 }
 
-// The place value of the first digit of n.
-fn first_place(n: u64) -> u64
+// The place value of the first digit of n, or `least` where that is more.
+fn first_place(n: u64, least: u64) -> u64
+    requires { ⌜ 0 < least ⌝ }
     ensures { λ r. ⌜ 0 < r ⌝ }
 {
-    let mut p = 1;
-    while p <= n / 10 {
-        p = p * 10;
+    let mut place = least;
+    while place <= n / 10 {
+        place = place * 10;
     }
-    p
+    place
 }
 
 // The digit of n at a place value, or a space before its first.
@@ -57,23 +58,17 @@ fn digit(n: u64, place: u64) -> u8
     48 + ((n / place % 10) as u8)
 }
 
-fn larger(a: u64, b: u64) -> u64 {
-    if a < b { b } else { a }
-}
-
-// A number in a column as wide as the digits of `width`, or wider.
-pub fn column(text: &mut [u8], at: usize, n: u64, width: u64) -> usize {
+// A number, in a column as wide as the digits of `least`, a power of ten, or wider.
+pub fn number(text: &mut [u8], at: usize, n: u64, least: u64) -> usize
+    requires { ⌜ 0 < least ⌝ }
+{
     let mut next = at;
-    let mut place = larger(first_place(n), width);
+    let mut place = first_place(n, least);
     while 0 < place {
         next = byte(text, next, digit(n, place));
         place = place / 10;
     }
     next
-}
-
-pub fn number(text: &mut [u8], at: usize, n: u64) -> usize {
-    column(text, at, n, 1)
 }
 
 // The start of row k of rows that end in LF; of the first where there are not so many.
@@ -112,7 +107,7 @@ fn mark_after(mark: u8, b: u8) -> u8 {
 // One byte of a row, after a mark or after none: a word, an `s` unless the word is 1, or the byte itself.
 fn piece(text: &mut [u8], at: usize, mark: u8, b: u8, words: &[u64; 8]) -> usize {
     if mark == b'#' {
-        return number(text, at, word(words, b));
+        return number(text, at, word(words, b), 1);
     }
     if mark == b'~' {
         if word(words, b) == 1 {
@@ -151,7 +146,7 @@ fn shown(b: u8) -> u8 {
     if b < 127 { b } else { b'?' }
 }
 
-// The bytes from `from` on to the end of the line; of a long line the first of them and two dots.
+// The bytes from `from` on to the end of the line, and LF; of a long line the first of them and two dots.
 pub fn line(text: &mut [u8], at: usize, listing: &[u8], from: usize) -> usize {
     let mut next = at;
     let mut left = SHOWN;
@@ -159,14 +154,14 @@ pub fn line(text: &mut [u8], at: usize, listing: &[u8], from: usize) -> usize {
     while i < listing.len() {
         let b = listing[i];
         if b == LF {
-            return next;
+            return byte(text, next, LF);
         }
         if left == 0 {
-            return bytes(text, next, b"..");
+            return bytes(text, next, b"..\n");
         }
         next = byte(text, next, shown(b));
         left -= 1;
         i += 1;
     }
-    next
+    byte(text, next, LF)
 }

@@ -9,31 +9,31 @@ use Rattle.explain.proofs.put.first_place.Lts as lts
 use borrow.Author.Needs.{needs}
 
 abbrev Inv-loop : tie.InvT-loop
-Inv-loop n p₀ p = 0 < p
+Inv-loop n least place₀ place = 0 < place
 
 abbrev μ-loop : tie.MeasureT-loop
-μ-loop n p₀ p = n - p
+μ-loop n least place₀ place = n - place
 
--- src/put.rt:39:5
+-- src/put.rt:43:5
 loop-holds : tie.Need-loop-holds Inv-loop μ-loop
 loop-holds c = search needs
 
--- src/put.rt:40:13
-mul-p : tie.Need-mul-p Inv-loop μ-loop
-mul-p c = search needs
+-- src/put.rt:44:17
+mul-place : tie.Need-mul-place Inv-loop μ-loop
+mul-place c = search needs
 
--- src/put.rt:39:5
+-- src/put.rt:43:5
 loop-less : tie.Need-loop-less Inv-loop μ-loop
 loop-less c = search needs
 
--- src/put.rt:39:5
+-- src/put.rt:43:5
 loop-again : tie.Need-loop-again Inv-loop μ-loop
 loop-again c = search needs
 
--- src/put.rt:35:1
+-- src/put.rt:38:1
 returns : tie.Need-returns Inv-loop μ-loop
 returns c = search needs
 
 pub first-place-spec : {M : Type 1} → statement M
 first-place-spec =
-    tie.close (tie.spec Inv-loop μ-loop loop-holds mul-p loop-less loop-again returns)
+    tie.close (tie.spec Inv-loop μ-loop loop-holds mul-place loop-less loop-again returns)

@@ -17,67 +17,75 @@ Inv-loop text₀ at listing from next₀ left₀ i₀ t9 text next left i = (len
 abbrev μ-loop : tie.MeasureT-loop
 μ-loop text₀ at listing from next₀ left₀ i₀ t9 text next left i = length listing - i
 
--- src/put.rt:159:5
+-- src/put.rt:154:5
 loop-holds : tie.Need-loop-holds Inv-loop μ-loop
 loop-holds c = search needs
 
--- src/put.rt:160:17
+-- src/put.rt:155:17
 shared-slice-read-b : tie.Need-shared-slice-read-b Inv-loop μ-loop
 shared-slice-read-b c = search needs
 
--- src/put.rt:162:13
-same-length : tie.Need-same-length Inv-loop μ-loop
-same-length c = search needs
-
--- src/put.rt:162:13
-returns : tie.Need-returns Inv-loop μ-loop
-returns c = search needs
-
--- src/put.rt:165:38
-slice-aggregate-bytes : tie.Need-slice-aggregate-bytes Inv-loop μ-loop
-slice-aggregate-bytes c = search needs
-
--- src/put.rt:165:13
-bytes-requires : tie.Need-bytes-requires Inv-loop μ-loop
-bytes-requires c κs = search needs
-
--- src/put.rt:165:13
-same-length-2 : tie.Need-same-length-2 Inv-loop μ-loop
-same-length-2 c = search needs
-
--- src/put.rt:165:13
-returns-2 : tie.Need-returns-2 Inv-loop μ-loop
-returns-2 c = search needs
-
--- src/put.rt:167:33
-shown-requires : tie.Need-shown-requires Inv-loop μ-loop
-shown-requires c κs = search needs
-
--- src/put.rt:167:9
+-- src/put.rt:157:13
 byte-requires : tie.Need-byte-requires Inv-loop μ-loop
 byte-requires c κs = search needs
 
--- src/put.rt:168:9
+-- src/put.rt:157:13
+same-length : tie.Need-same-length Inv-loop μ-loop
+same-length c = search needs
+
+-- src/put.rt:157:13
+returns : tie.Need-returns Inv-loop μ-loop
+returns c = search needs
+
+-- src/put.rt:160:38
+slice-aggregate-bytes : tie.Need-slice-aggregate-bytes Inv-loop μ-loop
+slice-aggregate-bytes c = search needs
+
+-- src/put.rt:160:13
+bytes-requires : tie.Need-bytes-requires Inv-loop μ-loop
+bytes-requires c κs = search needs
+
+-- src/put.rt:160:13
+same-length-2 : tie.Need-same-length-2 Inv-loop μ-loop
+same-length-2 c = search needs
+
+-- src/put.rt:160:13
+returns-2 : tie.Need-returns-2 Inv-loop μ-loop
+returns-2 c = search needs
+
+-- src/put.rt:162:33
+shown-requires : tie.Need-shown-requires Inv-loop μ-loop
+shown-requires c κs = search needs
+
+-- src/put.rt:162:9
+byte-requires-2 : tie.Need-byte-requires-2 Inv-loop μ-loop
+byte-requires-2 c κs = search needs
+
+-- src/put.rt:163:9
 sub-left : tie.Need-sub-left Inv-loop μ-loop
 sub-left c = search needs
 
--- src/put.rt:169:9
+-- src/put.rt:164:9
 add-i : tie.Need-add-i Inv-loop μ-loop
 add-i c = search needs
 
--- src/put.rt:159:5
+-- src/put.rt:154:5
 loop-less : tie.Need-loop-less Inv-loop μ-loop
 loop-less c = search needs
 
--- src/put.rt:159:5
+-- src/put.rt:154:5
 loop-again : tie.Need-loop-again Inv-loop μ-loop
 loop-again c = search needs
 
--- src/put.rt:155:1
+-- src/put.rt:166:5
+byte-requires-3 : tie.Need-byte-requires-3 Inv-loop μ-loop
+byte-requires-3 c κs = search needs
+
+-- src/put.rt:150:1
 same-length-3 : tie.Need-same-length-3 Inv-loop μ-loop
 same-length-3 c = search needs
 
--- src/put.rt:155:1
+-- src/put.rt:150:1
 returns-3 : tie.Need-returns-3 Inv-loop μ-loop
 returns-3 c = search needs
 
@@ -89,6 +97,7 @@ line-spec =
     μ-loop
     loop-holds
     shared-slice-read-b
+    byte-requires
     same-length
     returns
     slice-aggregate-bytes
@@ -96,10 +105,11 @@ line-spec =
     same-length-2
     returns-2
     shown-requires
-    byte-requires
+    byte-requires-2
     sub-left
     add-i
     loop-less
     loop-again
+    byte-requires-3
     same-length-3
     returns-3)
