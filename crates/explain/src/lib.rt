@@ -1,8 +1,10 @@
 // Words for an answer of the check, for people. Each function takes any bytes and any words, writes as much of its text as fits, and answers the
 // length of the whole.
 ghost use Prim.Native.Nat.{_≤_};
+
 mod lines;
 mod put;
+
 use lines::Place;
 use lines::Wanted;
 
@@ -182,7 +184,11 @@ fn wanted(answer: &[u64; 8]) -> Wanted {
         3 | 5..=15 | 17 => Wanted::Instruction(answer[1] as usize, answer[2] as usize),
         16 => Wanted::Entry(lines::SHARED, answer[2] as usize),
         18 => Wanted::Entry(lines::PRIVATE, answer[2] as usize),
-        19 => if answer[4] == 1 { Wanted::SharedLate } else { Wanted::Nothing },
+        19 => if answer[4] == 1 {
+            Wanted::SharedLate
+        } else {
+            Wanted::Nothing
+        },
         _ => Wanted::Nothing,
     }
 }
@@ -303,7 +309,13 @@ fn put_blind_reads(text: &mut [u8], at: usize, blinds: &[u8]) -> usize {
     put_case(text, at, BLIND, &words)
 }
 
-fn put_accepted(text: &mut [u8], listing: &[u8], heights: &[u8], blinds: &[u8], answer: &[u64; 8]) -> usize {
+fn put_accepted(
+    text: &mut [u8],
+    listing: &[u8],
+    heights: &[u8],
+    blinds: &[u8],
+    answer: &[u64; 8],
+) -> usize {
     let next = put_case(text, 0, ACCEPTED, answer);
     let next = put_blind_reads(text, next, blinds);
     let next = put_case(text, next, HEAD, answer);

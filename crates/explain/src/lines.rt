@@ -34,7 +34,19 @@ const FORMS: [u8; 160] = *b"(slot shared)\n\n\n\
     (op \n\n\n\n\n\n\n\n\n\n\n\n";
 
 // How many lines of each sort a listing may have; both sorts of slot share a table.
-const ROOMS: [usize; 11] = [256, 256, 256, 256, 64, 64, 64, 64, 1024, 4096, 18446744073709551615];
+const ROOMS: [usize; 11] = [
+    256,
+    256,
+    256,
+    256,
+    64,
+    64,
+    64,
+    64,
+    1024,
+    4096,
+    18446744073709551615,
+];
 
 // A sig line with 16 parameters opens 19 brackets: its own, two of its results, and those of the parameters.
 const MOST_BRACKETS: usize = 19;
