@@ -20,7 +20,7 @@ fn put_refusal(text: &mut [u8], at: usize, stop: u8, words: &[u64; 8]) -> usize 
         CannotFollow: \n\
         LimitPassed: \n\
         NotNested: this instruction does not fit the blocks around it: its place or its target is wrong\n\
-        SheetTooShort: each of #2 instruction~2 needs an entry of both sheets, and the shorter sheet has #3\n\
+        SheetTooShort: each of #2 instruction~2 needs an entry in both sheets, and the shorter sheet has #3\n\
         StackUnderflow: this instruction takes more operands than there are\n\
         OffsetOutOfBounds: the read ends at byte #4 of a composite of #5 byte~5\n\
         ExpectedComposite: this reads a part of a composite, but its operand is a scalar\n\
@@ -28,12 +28,12 @@ fn put_refusal(text: &mut [u8], at: usize, stop: u8, words: &[u64; 8]) -> usize 
         TextFieldMismatch: a text is read at byte #3, where the composite has none\n\
         BranchHeightMismatch: one way out of this block leaves #3 operand~3, another leaves #4\n\
         LoopNotNeutral: the body of this loop begins with #3 operand~3 and ends with #4\n\
-        LoopFloorBreach: of #4 operand~4 the #3 from before the loop must stay, and this instruction takes #5\n\
+        LoopFloorBreach: the loop began with #3 operand~3 and may take none of these; this instruction finds #4 and takes #5\n\
         LocalTypeMismatch: local #3 is a parameter; the value stored in it has another shape than the signature says\n\
         CallArgMismatch: argument #4 has another shape than signature #3 says (both are counted from 0)\n\
         ArrayStrideMismatch: an array of #4 byte~4 has no whole number of elements of #3 byte~3\n\
         SharedSlotOutOfBounds: \n\
-        EnumBodySizeMismatch: no enum line allows an enum of #3 byte~3; its size is that of a word plus MIN\n\
+        EnumBodySizeMismatch: a new enum of #3 byte~3 fits no enum line: it has the bytes of a word and MIN more\n\
         PrivateCompositeLayoutInvalid: \n\
         SharedLayoutCountMismatch: \n",
         words[0] as usize,
@@ -77,14 +77,14 @@ fn put_case(text: &mut [u8], at: usize, row: usize, words: &[u64; 8]) -> usize {
         b"\n\
         the listing ends after #2 line~2, before the `)` that closes the module\n\
         the listing ends within this line, and each line has to end with a line feed\n\
-        a listing begins with a line `(module W F A S P I H`, and this is none\n\
+        the first line has to be `(module W F A S P I H`, with numbers that fit\n\
         this line cannot follow the #2 line~2 before it: its form, a number in it or its place is wrong\n\
         this check knows no limit #3\n\
         the listing has more than 65,536 bytes\n\
-        a listing has at most #7 lines of this form, those of all chunks together\n\
+        a listing has at most #7 lines of this form in all\n\
         a chunk has at most 32 locals\n\
         this opens a ninth block, and at most 8 may be open at once\n\
-        more than 64 operands are there after this instruction\n\
+        after this instruction there are more than 64 operands\n\
         the new composite has texts at more than 16 places\n\
         a listing has too many lines of one form\n\
         a signature has at most 16 parameters\n\
@@ -97,11 +97,11 @@ fn put_case(text: &mut [u8], at: usize, row: usize, words: &[u64; 8]) -> usize {
         the offset of this entry is not above that of the entry before\n\
         this check knows no reason #4\n\
         a shared slot stands after a private one, and all shared slots come first\n\
-        #2 slot~2 shared and #3 shared line~3: each shared slot needs one such line\n\
+        #2 shared slot~2, but #3 line~3 `(shared OFFSET KIND LEN)`; each shared slot needs one\n\
         chunk #1, instruction #2, both counted from 0\n\
         accepted: #1 chunk~1, #2 instruction~2\n\
-        #7 blind read~7: the shape of what is read is not known there, so the check says nothing of it\n   \
-        line  height  mark   listing\n",
+        #7 blind read~7: the shape of what is read is not known there, so the check says nothing of it\n\
+        \x20  line  height  mark   listing\n",
         row,
         LF,
         words,

@@ -1,12 +1,8 @@
 -- `explain::marked` meets its contract. It ends with the sheet. Assumes nothing.
-use mathlib.Core.Path.{_≡_}
-use Prim.Native.Nat.{_≤_, _<_, _-_}
+use Prim.Native.Nat.{_≤_, _-_}
 use lib.ListN.{length}
 use Rattle.explain.proofs.marked.Statement.{statement}
 use Rattle.explain.proofs.marked.Tie as tie
-use Rattle.explain.proofs.marked.Reads as reads
-use Rattle.explain.proofs.marked.Lts as lts
-use Rattle.explain.proofs.put.counted.Reads as counted-reads
 use borrow.Author.Needs.{needs}
 
 abbrev Inv-loop : tie.InvT-loop
@@ -15,31 +11,24 @@ Inv-loop sheet n₀ i₀ n i = i ≤ length sheet
 abbrev μ-loop : tie.MeasureT-loop
 μ-loop sheet n₀ i₀ n i = length sheet - i
 
--- src/lib.rt:276:5
 loop-holds : tie.Need-loop-holds Inv-loop μ-loop
 loop-holds c = search needs
 
--- src/lib.rt:277:29
 shared-slice-read-counted : tie.Need-shared-slice-read-counted Inv-loop μ-loop
 shared-slice-read-counted c = search needs
 
--- src/lib.rt:277:9
 counted-requires : tie.Need-counted-requires Inv-loop μ-loop
 counted-requires c κs = search needs
 
--- src/lib.rt:278:9
 add-i : tie.Need-add-i Inv-loop μ-loop
 add-i c = search needs
 
--- src/lib.rt:276:5
 loop-less : tie.Need-loop-less Inv-loop μ-loop
 loop-less c = search needs
 
--- src/lib.rt:276:5
 loop-again : tie.Need-loop-again Inv-loop μ-loop
 loop-again c = search needs
 
--- src/lib.rt:273:1
 returns : tie.Need-returns Inv-loop μ-loop
 returns c = search needs
 

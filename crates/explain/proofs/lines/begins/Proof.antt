@@ -1,11 +1,7 @@
 -- `explain::lines::begins` meets its contract. It ends with the form. Assumes nothing.
-use mathlib.Core.Path.{_≡_}
-use Prim.Native.Nat.{_≤_, _<_, _-_}
-use lib.ListN.{length}
+use Prim.Native.Nat.{_≤_, _-_}
 use Rattle.explain.proofs.lines.begins.Statement.{statement}
 use Rattle.explain.proofs.lines.begins.Tie as tie
-use Rattle.explain.proofs.lines.begins.Reads as reads
-use Rattle.explain.proofs.lines.begins.Lts as lts
 use borrow.Author.Needs.{needs}
 
 abbrev Inv-loop : tie.InvT-loop
@@ -14,55 +10,42 @@ Inv-loop listing from sort i₀ j₀ i j = j ≤ 16
 abbrev μ-loop : tie.MeasureT-loop
 μ-loop listing from sort i₀ j₀ i j = 16 - j
 
--- src/lines.rt:66:5
 loop-holds : tie.Need-loop-holds Inv-loop μ-loop
 loop-holds c = search needs
 
--- src/lines.rt:67:23
 mul-b : tie.Need-mul-b Inv-loop μ-loop
 mul-b c = search needs
 
--- src/lines.rt:67:23
 add-b : tie.Need-add-b Inv-loop μ-loop
 add-b c = search needs
 
--- src/lines.rt:67:17
 array-read-b : tie.Need-array-read-b Inv-loop μ-loop
 array-read-b c = search needs
 
--- src/lines.rt:69:13
 returns : tie.Need-returns Inv-loop μ-loop
 returns c = search needs
 
--- src/lines.rt:72:13
 returns-2 : tie.Need-returns-2 Inv-loop μ-loop
 returns-2 c = search needs
 
--- src/lines.rt:74:12
 shared-slice-read-if3 : tie.Need-shared-slice-read-if3 Inv-loop μ-loop
 shared-slice-read-if3 c = search needs
 
--- src/lines.rt:75:13
 returns-3 : tie.Need-returns-3 Inv-loop μ-loop
 returns-3 c = search needs
 
--- src/lines.rt:77:9
 add-i : tie.Need-add-i Inv-loop μ-loop
 add-i c = search needs
 
--- src/lines.rt:78:9
 add-j : tie.Need-add-j Inv-loop μ-loop
 add-j c = search needs
 
--- src/lines.rt:66:5
 loop-less : tie.Need-loop-less Inv-loop μ-loop
 loop-less c = search needs
 
--- src/lines.rt:66:5
 loop-again : tie.Need-loop-again Inv-loop μ-loop
 loop-again c = search needs
 
--- src/lines.rt:61:1
 returns-4 : tie.Need-returns-4 Inv-loop μ-loop
 returns-4 c = search needs
 

@@ -1,11 +1,8 @@
 -- `explain::lines::end_of` meets its contract. It ends with the listing. Assumes nothing.
-use mathlib.Core.Path.{_≡_}
-use Prim.Native.Nat.{_≤_, _<_, _-_}
+use Prim.Native.Nat.{_≤_, _-_}
 use lib.ListN.{length}
 use Rattle.explain.proofs.lines.end_of.Statement.{statement}
 use Rattle.explain.proofs.lines.end_of.Tie as tie
-use Rattle.explain.proofs.lines.end_of.Reads as reads
-use Rattle.explain.proofs.lines.end_of.Lts as lts
 use borrow.Author.Needs.{needs}
 
 abbrev Inv-loop : tie.InvT-loop
@@ -14,31 +11,24 @@ Inv-loop listing from i₀ i = from ≤ i
 abbrev μ-loop : tie.MeasureT-loop
 μ-loop listing from i₀ i = length listing - i
 
--- src/lines.rt:52:5
 loop-holds : tie.Need-loop-holds Inv-loop μ-loop
 loop-holds c = search needs
 
--- src/lines.rt:53:12
 shared-slice-read-if1 : tie.Need-shared-slice-read-if1 Inv-loop μ-loop
 shared-slice-read-if1 c = search needs
 
--- src/lines.rt:54:13
 returns : tie.Need-returns Inv-loop μ-loop
 returns c = search needs
 
--- src/lines.rt:56:9
 add-i : tie.Need-add-i Inv-loop μ-loop
 add-i c = search needs
 
--- src/lines.rt:52:5
 loop-less : tie.Need-loop-less Inv-loop μ-loop
 loop-less c = search needs
 
--- src/lines.rt:52:5
 loop-again : tie.Need-loop-again Inv-loop μ-loop
 loop-again c = search needs
 
--- src/lines.rt:48:1
 returns-2 : tie.Need-returns-2 Inv-loop μ-loop
 returns-2 c = search needs
 

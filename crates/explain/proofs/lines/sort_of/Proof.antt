@@ -1,12 +1,7 @@
 -- `explain::lines::sort_of` meets its contract. It ends with the forms. Assumes nothing.
-use mathlib.Core.Path.{_≡_}
-use Prim.Native.Nat.{_≤_, _<_, _-_}
-use lib.ListN.{length}
+use Prim.Native.Nat.{_≤_, _-_}
 use Rattle.explain.proofs.lines.sort_of.Statement.{statement}
 use Rattle.explain.proofs.lines.sort_of.Tie as tie
-use Rattle.explain.proofs.lines.sort_of.Reads as reads
-use Rattle.explain.proofs.lines.sort_of.Lts as lts
-use Rattle.explain.proofs.lines.begins.Reads as begins-reads
 use borrow.Author.Needs.{needs}
 
 abbrev Inv-loop : tie.InvT-loop
@@ -15,31 +10,24 @@ Inv-loop listing from sort₀ sort = sort ≤ 10
 abbrev μ-loop : tie.MeasureT-loop
 μ-loop listing from sort₀ sort = 10 - sort
 
--- src/lines.rt:87:5
 loop-holds : tie.Need-loop-holds Inv-loop μ-loop
 loop-holds c = search needs
 
--- src/lines.rt:88:12
 begins-requires : tie.Need-begins-requires Inv-loop μ-loop
 begins-requires c κs = search needs
 
--- src/lines.rt:89:13
 returns : tie.Need-returns Inv-loop μ-loop
 returns c = search needs
 
--- src/lines.rt:91:9
 add-sort : tie.Need-add-sort Inv-loop μ-loop
 add-sort c = search needs
 
--- src/lines.rt:87:5
 loop-less : tie.Need-loop-less Inv-loop μ-loop
 loop-less c = search needs
 
--- src/lines.rt:87:5
 loop-again : tie.Need-loop-again Inv-loop μ-loop
 loop-again c = search needs
 
--- src/lines.rt:83:1
 returns-2 : tie.Need-returns-2 Inv-loop μ-loop
 returns-2 c = search needs
 

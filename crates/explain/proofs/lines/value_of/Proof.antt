@@ -1,12 +1,8 @@
 -- `explain::lines::value_of` meets its contract. It ends with the listing. Assumes nothing.
-use mathlib.Core.Path.{_≡_}
-use Prim.Native.Nat.{_≤_, _<_, _-_}
+use Prim.Native.Nat.{_≤_, _-_}
 use lib.ListN.{length}
 use Rattle.explain.proofs.lines.value_of.Statement.{statement}
 use Rattle.explain.proofs.lines.value_of.Tie as tie
-use Rattle.explain.proofs.lines.value_of.Reads as reads
-use Rattle.explain.proofs.lines.value_of.Lts as lts
-use Rattle.explain.proofs.lines.with_byte.Reads as with-byte-reads
 use borrow.Author.Needs.{needs}
 
 abbrev Inv-loop : tie.InvT-loop
@@ -15,35 +11,27 @@ Inv-loop listing from sort n₀ i₀ n i = from ≤ i
 abbrev μ-loop : tie.MeasureT-loop
 μ-loop listing from sort n₀ i₀ n i = length listing - i
 
--- src/lines.rt:116:5
 loop-holds : tie.Need-loop-holds Inv-loop μ-loop
 loop-holds c = search needs
 
--- src/lines.rt:117:17
 shared-slice-read-b : tie.Need-shared-slice-read-b Inv-loop μ-loop
 shared-slice-read-b c = search needs
 
--- src/lines.rt:119:13
 returns : tie.Need-returns Inv-loop μ-loop
 returns c = search needs
 
--- src/lines.rt:121:9
 with-byte-requires : tie.Need-with-byte-requires Inv-loop μ-loop
 with-byte-requires c κs = search needs
 
--- src/lines.rt:122:9
 add-i : tie.Need-add-i Inv-loop μ-loop
 add-i c = search needs
 
--- src/lines.rt:116:5
 loop-less : tie.Need-loop-less Inv-loop μ-loop
 loop-less c = search needs
 
--- src/lines.rt:116:5
 loop-again : tie.Need-loop-again Inv-loop μ-loop
 loop-again c = search needs
 
--- src/lines.rt:113:1
 returns-2 : tie.Need-returns-2 Inv-loop μ-loop
 returns-2 c = search needs
 

@@ -1,12 +1,9 @@
 -- `explain::put::bytes` meets its contract. The text keeps its length. Assumes nothing.
 use mathlib.Core.Path.{_≡_}
-use Prim.Native.Nat.{_≤_, _<_, _-_}
+use Prim.Native.Nat.{_-_}
 use lib.ListN.{length}
 use Rattle.explain.proofs.put.bytes.Statement.{statement}
 use Rattle.explain.proofs.put.bytes.Tie as tie
-use Rattle.explain.proofs.put.bytes.Reads as reads
-use Rattle.explain.proofs.put.bytes.Lts as lts
-use Rattle.explain.proofs.put.byte.Reads as byte-reads
 use borrow.Author.Needs.{needs}
 
 abbrev Inv-loop : tie.InvT-loop
@@ -15,35 +12,27 @@ Inv-loop text₀ at bytes next₀ i₀ text next i = (length text ≡ length tex
 abbrev μ-loop : tie.MeasureT-loop
 μ-loop text₀ at bytes next₀ i₀ text next i = length bytes - i
 
--- src/put.rt:27:5
 loop-holds : tie.Need-loop-holds Inv-loop μ-loop
 loop-holds c = search needs
 
--- src/put.rt:28:33
 shared-slice-read-byte : tie.Need-shared-slice-read-byte Inv-loop μ-loop
 shared-slice-read-byte c = search needs
 
--- src/put.rt:28:9
 byte-requires : tie.Need-byte-requires Inv-loop μ-loop
 byte-requires c κs = search needs
 
--- src/put.rt:29:9
 add-i : tie.Need-add-i Inv-loop μ-loop
 add-i c = search needs
 
--- src/put.rt:27:5
 loop-less : tie.Need-loop-less Inv-loop μ-loop
 loop-less c = search needs
 
--- src/put.rt:27:5
 loop-again : tie.Need-loop-again Inv-loop μ-loop
 loop-again c = search needs
 
--- src/put.rt:24:1
 same-length : tie.Need-same-length Inv-loop μ-loop
 same-length c = search needs
 
--- src/put.rt:24:1
 returns : tie.Need-returns Inv-loop μ-loop
 returns c = search needs
 

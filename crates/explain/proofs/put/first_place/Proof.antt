@@ -1,11 +1,7 @@
 -- `explain::put::first_place` meets its contract. The place value is never 0, and grows up to n. Assumes nothing.
-use mathlib.Core.Path.{_≡_}
-use Prim.Native.Nat.{_≤_, _<_, _-_}
-use lib.ListN.{length}
+use Prim.Native.Nat.{_<_, _-_}
 use Rattle.explain.proofs.put.first_place.Statement.{statement}
 use Rattle.explain.proofs.put.first_place.Tie as tie
-use Rattle.explain.proofs.put.first_place.Reads as reads
-use Rattle.explain.proofs.put.first_place.Lts as lts
 use borrow.Author.Needs.{needs}
 
 abbrev Inv-loop : tie.InvT-loop
@@ -14,23 +10,18 @@ Inv-loop n least place₀ place = 0 < place
 abbrev μ-loop : tie.MeasureT-loop
 μ-loop n least place₀ place = n - place
 
--- src/put.rt:43:5
 loop-holds : tie.Need-loop-holds Inv-loop μ-loop
 loop-holds c = search needs
 
--- src/put.rt:44:17
 mul-place : tie.Need-mul-place Inv-loop μ-loop
 mul-place c = search needs
 
--- src/put.rt:43:5
 loop-less : tie.Need-loop-less Inv-loop μ-loop
 loop-less c = search needs
 
--- src/put.rt:43:5
 loop-again : tie.Need-loop-again Inv-loop μ-loop
 loop-again c = search needs
 
--- src/put.rt:38:1
 returns : tie.Need-returns Inv-loop μ-loop
 returns c = search needs
 

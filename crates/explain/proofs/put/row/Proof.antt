@@ -1,14 +1,9 @@
 -- `explain::put::row` meets its contract. The text keeps its length. Assumes nothing.
 use mathlib.Core.Path.{_≡_}
-use Prim.Native.Nat.{_≤_, _<_, _-_}
+use Prim.Native.Nat.{_-_}
 use lib.ListN.{length}
 use Rattle.explain.proofs.put.row.Statement.{statement}
 use Rattle.explain.proofs.put.row.Tie as tie
-use Rattle.explain.proofs.put.row.Reads as reads
-use Rattle.explain.proofs.put.row.Lts as lts
-use Rattle.explain.proofs.put.mark_after.Reads as mark-after-reads
-use Rattle.explain.proofs.put.piece.Reads as piece-reads
-use Rattle.explain.proofs.put.row_start.Reads as row-start-reads
 use borrow.Author.Needs.{needs}
 
 abbrev Inv-loop : tie.InvT-loop
@@ -17,51 +12,39 @@ Inv-loop text₀ at rows k stop words next₀ mark₀ i₀ text next mark i = (l
 abbrev μ-loop : tie.MeasureT-loop
 μ-loop text₀ at rows k stop words next₀ mark₀ i₀ text next mark i = length rows - i
 
--- src/put.rt:133:9
 row-start-requires : tie.Need-row-start-requires Inv-loop μ-loop
 row-start-requires c κs = search needs
 
--- src/put.rt:134:5
 loop-holds : tie.Need-loop-holds Inv-loop μ-loop
 loop-holds c = search needs
 
--- src/put.rt:135:17
 shared-slice-read-b : tie.Need-shared-slice-read-b Inv-loop μ-loop
 shared-slice-read-b c = search needs
 
--- src/put.rt:137:13
 same-length : tie.Need-same-length Inv-loop μ-loop
 same-length c = search needs
 
--- src/put.rt:137:13
 returns : tie.Need-returns Inv-loop μ-loop
 returns c = search needs
 
--- src/put.rt:139:9
 piece-requires : tie.Need-piece-requires Inv-loop μ-loop
 piece-requires c κs = search needs
 
--- src/put.rt:140:9
 mark-after-requires : tie.Need-mark-after-requires Inv-loop μ-loop
 mark-after-requires c κs = search needs
 
--- src/put.rt:141:9
 add-i : tie.Need-add-i Inv-loop μ-loop
 add-i c = search needs
 
--- src/put.rt:134:5
 loop-less : tie.Need-loop-less Inv-loop μ-loop
 loop-less c = search needs
 
--- src/put.rt:134:5
 loop-again : tie.Need-loop-again Inv-loop μ-loop
 loop-again c = search needs
 
--- src/put.rt:130:1
 same-length-2 : tie.Need-same-length-2 Inv-loop μ-loop
 same-length-2 c = search needs
 
--- src/put.rt:130:1
 returns-2 : tie.Need-returns-2 Inv-loop μ-loop
 returns-2 c = search needs
 

@@ -1,12 +1,8 @@
 -- `explain::put::row_start` meets its contract. It ends with the rows. Assumes nothing.
-use mathlib.Core.Path.{_≡_}
-use Prim.Native.Nat.{_≤_, _<_, _-_}
+use Prim.Native.Nat.{_≤_, _-_}
 use lib.ListN.{length}
 use Rattle.explain.proofs.put.row_start.Statement.{statement}
 use Rattle.explain.proofs.put.row_start.Tie as tie
-use Rattle.explain.proofs.put.row_start.Reads as reads
-use Rattle.explain.proofs.put.row_start.Lts as lts
-use Rattle.explain.proofs.put.counted.Reads as counted-reads
 use borrow.Author.Needs.{needs}
 
 abbrev Inv-loop : tie.InvT-loop
@@ -15,35 +11,27 @@ Inv-loop rows k row₀ i₀ row i = i ≤ length rows
 abbrev μ-loop : tie.MeasureT-loop
 μ-loop rows k row₀ i₀ row i = length rows - i
 
--- src/put.rt:80:5
 loop-holds : tie.Need-loop-holds Inv-loop μ-loop
 loop-holds c = search needs
 
--- src/put.rt:82:13
 returns : tie.Need-returns Inv-loop μ-loop
 returns c = search needs
 
--- src/put.rt:84:28
 shared-slice-read-counted : tie.Need-shared-slice-read-counted Inv-loop μ-loop
 shared-slice-read-counted c = search needs
 
--- src/put.rt:84:9
 counted-requires : tie.Need-counted-requires Inv-loop μ-loop
 counted-requires c κs = search needs
 
--- src/put.rt:85:9
 add-i : tie.Need-add-i Inv-loop μ-loop
 add-i c = search needs
 
--- src/put.rt:80:5
 loop-less : tie.Need-loop-less Inv-loop μ-loop
 loop-less c = search needs
 
--- src/put.rt:80:5
 loop-again : tie.Need-loop-again Inv-loop μ-loop
 loop-again c = search needs
 
--- src/put.rt:77:1
 returns-2 : tie.Need-returns-2 Inv-loop μ-loop
 returns-2 c = search needs
 
