@@ -47,27 +47,27 @@ const WHOLE: usize = 0;
 
 const FOLLOW: usize = 1;
 
-const LIMIT: usize = 5;
+const LIMIT: usize = 6;
 
-const NO_TABLE: usize = 12;
+const NO_TABLE: usize = 13;
 
-const PARAMETERS: usize = 13;
+const PARAMETERS: usize = 14;
 
-const NO_KIND: usize = 14;
+const NO_KIND: usize = 15;
 
-const PAST_THE_END: usize = 15;
+const PAST_THE_END: usize = 16;
 
-const PRIVATE: usize = 16;
+const PRIVATE: usize = 17;
 
-const COUNTS: usize = 21;
+const COUNTS: usize = 22;
 
-const WHEREABOUTS: usize = 24;
+const WHEREABOUTS: usize = 25;
 
-const ACCEPTED: usize = 25;
+const ACCEPTED: usize = 26;
 
-const BLIND: usize = 26;
+const BLIND: usize = 27;
 
-const HEAD: usize = 27;
+const HEAD: usize = 28;
 
 // Word 7 is the room of a table.
 fn put_case(text: &mut [u8], at: usize, row: usize, words: &[u64; 8]) -> usize {
@@ -76,12 +76,13 @@ fn put_case(text: &mut [u8], at: usize, row: usize, words: &[u64; 8]) -> usize {
         at,
         b"\n\
         the listing ends after #2 line~2, before the `)` that closes the module\n\
+        a byte of this line, shown as `?`, may not stand in a listing\n\
         the listing ends within this line, and each line has to end with a line feed\n\
         the first line has to be `(module W F A S P I H`, with numbers that fit\n\
         this line cannot follow the #2 line~2 before it: its form, a number in it or its place is wrong\n\
         this check knows no limit #3\n\
         the listing has more than 65,536 bytes\n\
-        a listing has at most #7 lines of this form in all\n\
+        a listing has at most #7 lines that begin with this word\n\
         a chunk has at most 32 locals\n\
         this opens a ninth block, and at most 8 may be open at once\n\
         after this instruction there are more than 64 operands\n\
@@ -119,18 +120,25 @@ fn in_group(group: usize, k: u64, most: u64) -> usize
     group
 }
 
+fn printable_row(listing: &[u8], from: usize, answer: &[u64; 8]) -> usize {
+    if listing.len() <= lines::end_of(listing, from) {
+        return FOLLOW + 2;
+    }
+    if answer[2] == 0 {
+        return FOLLOW + 3;
+    }
+    FOLLOW + 4
+}
+
 fn follow_row(listing: &[u8], place: Place, answer: &[u64; 8]) -> usize {
     let from = place.from;
     if place.line == 0 {
         return FOLLOW;
     }
-    if listing.len() <= lines::end_of(listing, from) {
-        return FOLLOW + 1;
+    if lines::is_printable(listing, from) {
+        return printable_row(listing, from, answer);
     }
-    if answer[2] == 0 {
-        return FOLLOW + 2;
-    }
-    FOLLOW + 3
+    FOLLOW + 1
 }
 
 fn limit_row(listing: &[u8], place: Place, answer: &[u64; 8]) -> usize {

@@ -70,6 +70,22 @@ pub fn end_of(listing: &[u8], from: usize) -> usize
     i
 }
 
+pub fn is_printable(listing: &[u8], from: usize) -> bool {
+    let mut i = from;
+    while i < listing.len() {
+        let b = listing[i];
+        if b == LF {
+            return true;
+        }
+        if put::is_printable(b) {
+            i += 1;
+        } else {
+            return false;
+        }
+    }
+    true
+}
+
 fn begins(listing: &[u8], from: usize, sort: usize) -> bool
     requires { ⌜ sort < 10 ⌝ }
 {

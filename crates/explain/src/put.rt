@@ -138,12 +138,16 @@ pub fn row(text: &mut [u8], at: usize, rows: &[u8], k: usize, stop: u8, words: &
     next
 }
 
-// What a terminal may be sent.
-fn shown(b: u8) -> u8 {
+// What a line may have, and a terminal be sent.
+pub fn is_printable(b: u8) -> bool {
     if b < b' ' {
-        return b'?';
+        return false;
     }
-    if b < 127 { b } else { b'?' }
+    b < 127
+}
+
+fn shown(b: u8) -> u8 {
+    if is_printable(b) { b } else { b'?' }
 }
 
 // The bytes from `from` on to the end of the line, and LF; of a long line the first of them and two dots.
