@@ -12,34 +12,30 @@ const LF: u8 = b'\n';
 
 // Row K for refusal K: its name, a colon and a sentence, filled with the words as put::row says; row 0 for numbers that are not known. Where the
 // sentence hangs on more than the number the row ends with the colon, and case_row says which row of put_case goes on.
+const REFUSALS: [u8; 1417] = *b"refusal #0: this check knows no such refusal\n\
+    CannotFollow: \n\
+    LimitPassed: \n\
+    NotNested: this instruction does not fit the blocks around it: its place or its target is wrong\n\
+    SheetTooShort: each of #2 instruction~2 needs an entry in both sheets, and the shorter sheet has #3\n\
+    StackUnderflow: this instruction takes more operands than there are\n\
+    OffsetOutOfBounds: the read ends at byte #4 of a composite of #5 byte~5\n\
+    ExpectedComposite: this reads a part of a composite, but its operand is a scalar\n\
+    NewCompositeSizeMismatch: the new composite says #3 byte~3, but its operands have #4\n\
+    TextFieldMismatch: a text is read at byte #3, where the composite has none\n\
+    BranchHeightMismatch: one way out of this block leaves #3 operand~3, another leaves #4\n\
+    LoopNotNeutral: the body of this loop begins with #3 operand~3 and ends with #4\n\
+    LoopFloorBreach: the loop began with #3 operand~3 and may take none of these; this instruction finds #4 and takes #5\n\
+    LocalTypeMismatch: local #3 is a parameter; the value stored in it has another shape than the signature says\n\
+    CallArgMismatch: argument #4 has another shape than signature #3 says (both are counted from 0)\n\
+    ArrayStrideMismatch: an array of #4 byte~4 has no whole number of elements of #3 byte~3\n\
+    SharedSlotOutOfBounds: \n\
+    EnumBodySizeMismatch: a new enum of #3 byte~3 fits no enum line: it has the bytes of a word and MIN more\n\
+    PrivateCompositeLayoutInvalid: \n\
+    SharedLayoutCountMismatch: \n";
+
 fn put_refusal(text: &mut [u8], at: usize, stop: u8, words: &[u64; 8]) -> usize {
-    put::row(
-        text,
-        at,
-        b"refusal #0: this check knows no such refusal\n\
-        CannotFollow: \n\
-        LimitPassed: \n\
-        NotNested: this instruction does not fit the blocks around it: its place or its target is wrong\n\
-        SheetTooShort: each of #2 instruction~2 needs an entry in both sheets, and the shorter sheet has #3\n\
-        StackUnderflow: this instruction takes more operands than there are\n\
-        OffsetOutOfBounds: the read ends at byte #4 of a composite of #5 byte~5\n\
-        ExpectedComposite: this reads a part of a composite, but its operand is a scalar\n\
-        NewCompositeSizeMismatch: the new composite says #3 byte~3, but its operands have #4\n\
-        TextFieldMismatch: a text is read at byte #3, where the composite has none\n\
-        BranchHeightMismatch: one way out of this block leaves #3 operand~3, another leaves #4\n\
-        LoopNotNeutral: the body of this loop begins with #3 operand~3 and ends with #4\n\
-        LoopFloorBreach: the loop began with #3 operand~3 and may take none of these; this instruction finds #4 and takes #5\n\
-        LocalTypeMismatch: local #3 is a parameter; the value stored in it has another shape than the signature says\n\
-        CallArgMismatch: argument #4 has another shape than signature #3 says (both are counted from 0)\n\
-        ArrayStrideMismatch: an array of #4 byte~4 has no whole number of elements of #3 byte~3\n\
-        SharedSlotOutOfBounds: \n\
-        EnumBodySizeMismatch: a new enum of #3 byte~3 fits no enum line: it has the bytes of a word and MIN more\n\
-        PrivateCompositeLayoutInvalid: \n\
-        SharedLayoutCountMismatch: \n",
-        words[0] as usize,
-        stop,
-        words,
-    )
+    let rows = REFUSALS;
+    put::row(text, at, &rows, words[0] as usize, stop, words)
 }
 
 // The rows of put_case. A group begins with the row for what is not known.
@@ -70,43 +66,39 @@ const BLIND: usize = 27;
 const HEAD: usize = 28;
 
 // Word 7 is the room of a table.
+const CASES: [u8; 1586] = *b"\n\
+    the listing ends after #2 line~2, before the `)` that closes the module\n\
+    a byte of this line, shown as `?`, may not stand in a listing; a line ends with a line feed alone\n\
+    the listing ends within this line, and each line has to end with a line feed\n\
+    the first line has to be `(module W F A S P I H`, with numbers that fit\n\
+    this line cannot follow the #2 line~2 before it: its form, a number in it or its place is wrong\n\
+    this check knows no limit #3\n\
+    the listing has more than 65,536 bytes\n\
+    a listing has at most #7 lines that begin with this word\n\
+    a chunk has at most 32 locals\n\
+    this opens a ninth block, and at most 8 may be open at once\n\
+    after this instruction there are more than 64 operands\n\
+    the new composite has texts at more than 16 places\n\
+    a listing has too many lines of one form\n\
+    a signature has at most 16 parameters\n\
+    the KIND of this entry is neither that of a scalar nor that of a composite\n\
+    this entry has #4 byte~4 from byte #3 on, and there are #5 shared byte~5\n\
+    this check knows no reason #4\n\
+    there is no slot #3\n\
+    the offset of this entry is outside the persistent pool\n\
+    slot #3 is not above the slot of the entry before\n\
+    the offset of this entry is not above that of the entry before\n\
+    this check knows no reason #4\n\
+    a shared slot stands after a private one, and all shared slots come first\n\
+    #2 shared slot~2, but #3 line~3 `(shared OFFSET KIND LEN)`; each shared slot needs one\n\
+    chunk #1, instruction #2, both counted from 0\n\
+    accepted: #1 chunk~1, #2 instruction~2\n\
+    #7 blind read~7: the shape of what is read is not known there, so the check says nothing of it\n\
+    \x20  line  height  mark   listing\n";
+
 fn put_case(text: &mut [u8], at: usize, row: usize, words: &[u64; 8]) -> usize {
-    let next = put::row(
-        text,
-        at,
-        b"\n\
-        the listing ends after #2 line~2, before the `)` that closes the module\n\
-        a byte of this line, shown as `?`, may not stand in a listing\n\
-        the listing ends within this line, and each line has to end with a line feed\n\
-        the first line has to be `(module W F A S P I H`, with numbers that fit\n\
-        this line cannot follow the #2 line~2 before it: its form, a number in it or its place is wrong\n\
-        this check knows no limit #3\n\
-        the listing has more than 65,536 bytes\n\
-        a listing has at most #7 lines that begin with this word\n\
-        a chunk has at most 32 locals\n\
-        this opens a ninth block, and at most 8 may be open at once\n\
-        after this instruction there are more than 64 operands\n\
-        the new composite has texts at more than 16 places\n\
-        a listing has too many lines of one form\n\
-        a signature has at most 16 parameters\n\
-        the KIND of this entry is neither that of a scalar nor that of a composite\n\
-        this entry has #4 byte~4 from byte #3 on, and there are #5 shared byte~5\n\
-        this check knows no reason #4\n\
-        there is no slot #3\n\
-        the offset of this entry is outside the persistent pool\n\
-        slot #3 is not above the slot of the entry before\n\
-        the offset of this entry is not above that of the entry before\n\
-        this check knows no reason #4\n\
-        a shared slot stands after a private one, and all shared slots come first\n\
-        #2 shared slot~2, but #3 line~3 `(shared OFFSET KIND LEN)`; each shared slot needs one\n\
-        chunk #1, instruction #2, both counted from 0\n\
-        accepted: #1 chunk~1, #2 instruction~2\n\
-        #7 blind read~7: the shape of what is read is not known there, so the check says nothing of it\n\
-        \x20  line  height  mark   listing\n",
-        row,
-        LF,
-        words,
-    );
+    let rows = CASES;
+    let next = put::row(text, at, &rows, row, LF, words);
     put::byte(text, next, LF)
 }
 
