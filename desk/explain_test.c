@@ -1,8 +1,8 @@
 /* Tests stagecheck_explain, stagecheck_line and stagecheck_name: explain_test FILE.listing ..
  *
- * The text for each listing is held to FILE.explained, that for words which no check gives to made_up.explained beside the first.
+ * The text for each listing is held to FILE.explained, which `stagecheck --explain FILE.listing` writes; that for words which no check
+ * gives to made_up.explained beside the first, which `explain_test --made-up` writes.
  * Each text is also asked for in shorter room: what is written agrees, and nothing behind it is touched. Then random words and bytes.
- * `explain_test --made-up` writes the text for the made-up words.
  */
 #include "../include/stagecheck.h"
 #include <stdio.h>

@@ -65,7 +65,7 @@ const BLIND: usize = 27;
 
 const HEAD: usize = 28;
 
-// Word 7 is the room of a table.
+// Word 7 is what no answer has: the room of a table, or how many reads are blind.
 const CASES: [u8; 1586] = *b"\n\
     the listing ends after #2 line~2, before the `)` that closes the module\n\
     a byte of this line, shown as `?`, may not stand in a listing; a line ends with a line feed alone\n\
