@@ -17,14 +17,14 @@ const REFUSALS: [u8; 1417] = *b"refusal #0: this check knows no such refusal\n\
     LimitPassed: \n\
     NotNested: this instruction does not fit the blocks around it: its place or its target is wrong\n\
     SheetTooShort: each of #2 instruction~2 needs an entry in both sheets, and the shorter sheet has #3\n\
-    StackUnderflow: this instruction takes more operands than there are\n\
+    StackUnderflow: this instruction needs more operands than there are\n\
     OffsetOutOfBounds: the read ends at byte #4 of a composite of #5 byte~5\n\
     ExpectedComposite: this reads a part of a composite, but its operand is a scalar\n\
     NewCompositeSizeMismatch: the new composite says #3 byte~3, but its operands have #4\n\
     TextFieldMismatch: a text is read at byte #3, where the composite has none\n\
     BranchHeightMismatch: one way out of this block leaves #3 operand~3, another leaves #4\n\
     LoopNotNeutral: the body of this loop begins with #3 operand~3 and ends with #4\n\
-    LoopFloorBreach: the loop began with #3 operand~3 and may take none of these; this instruction finds #4 and takes #5\n\
+    LoopFloorBreach: the loop began with #3 operand~3 and may take none of these; this instruction finds #4 and needs #5\n\
     LocalTypeMismatch: local #3 is a parameter; the value stored in it has another shape than the signature says\n\
     CallArgMismatch: argument #4 has another shape than signature #3 says (both are counted from 0)\n\
     ArrayStrideMismatch: an array of #4 byte~4 has no whole number of elements of #3 byte~3\n\
