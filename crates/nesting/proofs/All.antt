@@ -11,7 +11,7 @@ use Rattle.definition.specs.Nesting.{first-broken, too-deep, find-chunk, refuse
 use Rattle.definition.specs.Check.{nesting-test}
 use Rattle.bytecode.specs.Lists.{tabulate}
 use Rattle.bytecode.specs.Meaning.{count, chunkOf, chunksOf}
-use Rattle.nesting.specs.Answer.{Verdict, broken-of, deep-of, deeper-of-all}
+use Rattle.nesting.specs.Answer.{Nesting-is, broken-of, deep-of, deeper-of-all}
 use Rattle.nesting.specs.declared.ChunkNesting.{ChunkNesting}
 use Rattle.nesting.specs.declared.ChunkNesting.the-variants as one
 use Rattle.answer.specs.declared.Refusal.{Refusal}
@@ -73,7 +73,7 @@ module _ (t : List ℕ) where
   answer r a b x y e = e ∙ rw (all-left t, x, y)
 
   module _ (k : ℕ) (found : Finding) (S : State k found) where
-    module _ (l : k < count t 7) (r : ChunkNesting) (v : Verdict (chunkOf t k) r) where
+    module _ (l : k < count t 7) (r : ChunkNesting) (v : Nesting-is (chunkOf t k) r) where
       pub is-broken : (p : ℕ) → r ≡ one.Broken p → numbers (Refused k (NotNested p)) ≡ nesting-test (chunksOf t)
       unfolding broken-of numbers numbers-in fields with-chunk first refuse-broken
       is-broken p e =

@@ -26,7 +26,7 @@ use Rattle.nesting.specs.declared.Step.the-variants.{Bad, Stay, Pop, Pus
 use Rattle.nesting.specs.declared.ChunkNesting.{ChunkNesting}
 use Rattle.nesting.specs.declared.ChunkNesting.the-variants.{Broken, TooDeep, Nested}
 use Rattle.nesting.specs.Blocks.{Block, Keeps, Rules, Names, No-block}
-use Rattle.nesting.specs.Answer.{Verdict, broken-of, deep-of, deeper}
+use Rattle.nesting.specs.Answer.{Nesting-is, broken-of, deep-of, deeper}
 
 -- the test of `too-deep` at p
 abbrev pub deep-at : Chunk → ℕ → Bool
@@ -199,7 +199,7 @@ module _ (c : Chunk) (t : List ℕ) (code : Code) (C : Coded c t code) where
         grown : (r : ChunkNesting) → r ≡ deeper found (h + 1) p → r ≡ deeper found (suc h) p
         grown r w = rw (← add-one h) w
 
-    pub broken : p < code .size → Good c p (getD es h 0) Bad → Verdict c (Broken p)
+    pub broken : p < code .size → Good c p (getD es h 0) Bad → Nesting-is c (Broken p)
     unfolding first-broken broken-of
     broken l g =
         let e : first-broken c ≡ some p =
@@ -213,11 +213,11 @@ module _ (c : Chunk) (t : List ℕ) (code : Code) (C : Coded c t code) where
         →firsts (length (c .code)) 0 (λ q. not (rule-holds c q (control-at c q)))
         (λ q a u. →not-not (rule-holds c q (control-at c q)) (S .rules q (omega (arith, C .size-is))))
 
-    pub ends-well : code .size ≤ p → p ≤ code .size → Verdict c found
+    pub ends-well : code .size ≤ p → p ≤ code .size → Nesting-is c found
     unfolding broken-of deep-of too-deep
     ends-well l u = go found (S .first)
       where
-        go : (r : ChunkNesting) → First c p r → Verdict c r
+        go : (r : ChunkNesting) → First c p r → Nesting-is c r
         go (Broken q) f = absurd f
         go (TooDeep q) (x, y, f) =
             record {
@@ -244,14 +244,14 @@ module _ (t : List ℕ) (code : Code) (ms es bs : List ℕ) (p h : ℕ) (found :
       (subst (λ (o : Open). Good c p (o .closer) s) i
       (R c (subst (λ (o : Open). Here c t code o p) (sym i) (here c t code C ms es bs p h found (S c C) l))))
 
-  pub bads : s ≡ Bad → (c : Chunk) → Coded c t code → Verdict c (Broken p)
+  pub bads : s ≡ Bad → (c : Chunk) → Coded c t code → Nesting-is c (Broken p)
   bads e c C = broken c t code C ms es bs p h found (S c C) l (good Bad e c C)
 
   pub stays : s ≡ Stay → States t code ms es bs (p + 1) h found
   stays e c C = stay c t code C ms es bs p h found (S c C) (good Stay e c C)
 
   -- below the innermost there is one more entry
-  pub pops-none : s ≡ Pop → h ≡ 0 → (c : Chunk) → Coded c t code → Verdict c (Broken p)
+  pub pops-none : s ≡ Pop → h ≡ 0 → (c : Chunk) → Coded c t code → Nesting-is c (Broken p)
   pops-none e z c C = absurd (omega (arith, pop-some c t code C ms es bs p h found (S c C) l (good Pop e c C)))
 
   pub pops : s ≡ Pop → States t code ms es bs (p + 1) (h - 1) found

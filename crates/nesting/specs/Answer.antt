@@ -28,7 +28,7 @@ deep-of (one.TooDeep p) = some p
 deep-of one.Nested = none
 
 -- The first instruction that breaks a rule; where there is none, the first opener making too many open blocks.
-pub record Verdict (c : Chunk) (r : ChunkNesting) : Type 0 where
+pub record Nesting-is (c : Chunk) (r : ChunkNesting) : Type 0 where
   pub broken : first-broken c ≡ broken-of r
   pub deep : first-broken c ≡ none → too-deep c ≡ deep-of r
 

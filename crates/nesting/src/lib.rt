@@ -10,7 +10,7 @@ ghost use Rattle.bytecode.specs.Parts.{instrOf};
 ghost use Rattle.answer.specs.Answer.{found as numbers};
 ghost use Rattle.nesting.specs.Codes.{partOf, part-in, Coded, Code-is};
 ghost use Rattle.nesting.specs.Blocks.{Fits};
-ghost use Rattle.nesting.specs.Answer.{Verdict, deeper, deeper-of-all};
+ghost use Rattle.nesting.specs.Answer.{Nesting-is, deeper, deeper-of-all};
 ghost use Rattle.nesting.specs.Steps.{Right, Right-two, Right-one, Right-if, Right-loop, Tells, Closes, stay-if, pop-if, break-of, open-at};
 use answer::Finding;
 use answer::Refusal;
@@ -283,7 +283,7 @@ fn check_code(
     requires { ⌜ code .size < length (now middles) ⌝ }
     requires { ⌜ code .size < length (now closers) ⌝ }
     requires { ⌜ code .size < length (now targets) ⌝ }
-    ensures { λ r. ⌜ ((c : Chunk) → Coded c (now (t .entry)) code → Verdict c r) ⌝ }
+    ensures { λ r. ⌜ ((c : Chunk) → Coded c (now (t .entry)) code → Nesting-is c r) ⌝ }
 {
     let size = code.size;
     middles[0] = size;
@@ -337,7 +337,7 @@ fn code_of(t: &[u64], k: usize) -> Code
 // A chunk of any length, with room for as many open blocks as a listing can have.
 fn check_long(t: &[u64], code: Code) -> ChunkNesting
     requires { ⌜ code .first + code .size ≤ 4096 ⌝ }
-    ensures { λ r. ⌜ ((c : Chunk) → Coded c (now (t .entry)) code → Verdict c r) ⌝ }
+    ensures { λ r. ⌜ ((c : Chunk) → Coded c (now (t .entry)) code → Nesting-is c r) ⌝ }
 {
     let mut middles = [0u16; 4097];
     let mut closers = [0u16; 4097];
@@ -348,7 +348,7 @@ fn check_long(t: &[u64], code: Code) -> ChunkNesting
 // The nesting of chunk k. A short one has little room, since room is set to zero first.
 fn check_chunk(t: &[u64], k: usize) -> ChunkNesting
     requires { ⌜ k < 64 ⌝ }
-    ensures { λ r. ⌜ Verdict (chunkOf (now (t .entry)) k) r ⌝ }
+    ensures { λ r. ⌜ Nesting-is (chunkOf (now (t .entry)) k) r ⌝ }
 {
     let code = code_of(t, k);
     if code.size < 256 {
