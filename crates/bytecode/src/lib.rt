@@ -2,7 +2,7 @@
 use value_layout::Widths;
 use value_layout::scalar;
 ghost use mathlib.Core.Path.{_≡_};
-ghost use Prim.Native.Nat.{ℕ, _+_, _*_, _-_, _%_, _<_, _≤_, min};
+ghost use Prim.Native.Nat.{_+_, _*_, _-_, _%_, _<_, _≤_, min};
 ghost use mathlib.Core.List.{map};
 ghost use lib.ListN.{length, getD, getElem?};
 ghost use Rattle.definition.specs.Format.{bits};

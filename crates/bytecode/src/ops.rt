@@ -1,7 +1,6 @@
 // The table of op names: a row for each name, or each of its variants, in the order of `op_depth_effect`.
 ghost use mathlib.Core.Path.{_≡_};
-ghost use mathlib.Core.Bool.{Bool};
-ghost use Prim.Native.Nat.{ℕ, _+_, _<_, _≤_, min};
+ghost use Prim.Native.Nat.{_+_, _<_, _≤_};
 ghost use lib.ListN.{length, getD, take, drop};
 ghost use Rattle.definition.specs.Shapes.{same-places};
 ghost use Rattle.bytecode.specs.Meaning.{maxima-of};

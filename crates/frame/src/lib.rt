@@ -7,8 +7,8 @@ use shapes::Shape;
 use shapes::Value;
 use value_layout::Widths;
 ghost use mathlib.Core.Path.{_≡_};
-ghost use mathlib.Core.Bool.{Bool, true, false};
-ghost use mathlib.Core.List.{List, [], reverse};
+ghost use mathlib.Core.Bool.{true, false};
+ghost use mathlib.Core.List.{List, reverse};
 ghost use Prim.Native.Nat.{ℕ, _+_, _*_, _-_, _≤_, _<_};
 ghost use lib.ListN.{length, take, drop, getD, replicate};
 ghost use lib.Seq.{paste};
@@ -17,11 +17,11 @@ ghost use Rattle.definition.specs.Walk.{join-states};
 ghost use Rattle.definition.specs.Instructions.{Chunk};
 ghost use Rattle.definition.specs.Effects.{built-places, packed};
 ghost use Rattle.value_layout.specs.Sizes.{Wide};
-ghost use Rattle.shapes.specs.Model.{shapeOf, valueOf, countOf};
+ghost use Rattle.shapes.specs.Model.{valueOf, countOf};
 ghost use Rattle.shapes.specs.Cover.{covers, covers-all, covers-state};
 ghost use Rattle.shapes.specs.Text.{packedOf, Means};
-ghost use Rattle.frame.specs.Model.{slotOf, valueIn, valueAt, at, stackOf, localsOf, stateOf, replaced, withLocal, widened, Long};
-ghost use Rattle.frame.specs.Slots.{Written, Filled, Copied, Joined, Same};
+ghost use Rattle.frame.specs.Model.{slotOf, valueAt, at, stackOf, localsOf, stateOf, replaced, withLocal, widened, Long};
+ghost use Rattle.frame.specs.Slots.{Written, Filled, Copied, Joined};
 
 // 64 operands, then 32 locals; sixteen places for each. What lies above the height, or past a count, means nothing.
 pub struct State {

@@ -6,7 +6,7 @@ ghost use mathlib.Core.Path.{_≡_};
 ghost use mathlib.Core.List.{List, _∷_, []};
 ghost use mathlib.Core.Option.{none, some};
 ghost use lib.ListN.{length, take, drop, getD};
-ghost use Prim.Native.Nat.{ℕ, _+_, _*_, _^_, _-_, _<_, _≤_};
+ghost use Prim.Native.Nat.{ℕ, _+_, _*_, _-_, _<_, _≤_};
 ghost use Rattle.definition.specs.Format.{Bytes, bytes, digits-from, is-digit, begins-digit, begins-number, number-at, numbers-at, strip, begins-with};
 ghost use Rattle.definition.specs.Shapes.{same-places};
 ghost use Rattle.definition.specs.Ops.{ops as op-rows};

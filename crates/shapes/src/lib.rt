@@ -2,7 +2,7 @@
 use value_layout::Widths;
 use value_layout::scalar;
 ghost use mathlib.Core.Path.{_≡_};
-ghost use mathlib.Core.Bool.{Bool, _&&_};
+ghost use mathlib.Core.Bool.{_&&_};
 ghost use mathlib.Core.List.{List, _∷_, _++_, []};
 ghost use mathlib.Core.Option.{Option, none, some};
 ghost use Prim.Native.Nat.{ℕ, _+_, _*_, _-_, _≤_, _<_};

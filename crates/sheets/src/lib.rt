@@ -1,6 +1,5 @@
 // The number of all instructions, and whether the two lent sheets have room for them.
 ghost use mathlib.Core.Path.{_≡_};
-ghost use Prim.Native.Nat.{_≤_, min};
 ghost use lib.ListN.{length};
 ghost use Rattle.definition.specs.Module.{all-ops};
 ghost use Rattle.definition.specs.Check.{sheets-test};

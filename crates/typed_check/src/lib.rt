@@ -6,7 +6,6 @@ use answer::Verdict;
 use listing::Reading;
 use walk::Walk;
 ghost use mathlib.Core.Path.{_≡_};
-ghost use mathlib.Core.List.{_∷_, []};
 ghost use lib.ListN.{length, replicate};
 ghost use Rattle.definition.specs.Basics.{pass, refused};
 ghost use Rattle.definition.specs.Check.{check, check-module, conclude};
