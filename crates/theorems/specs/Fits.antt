@@ -13,7 +13,7 @@ use lib.ListN.{length, getElem?, length-append}
 use Rattle.definition.specs.Basics.{ok, refused, _>>=_, is-member, first, unless, pass}
 use Rattle.definition.specs.Shapes.{Wire, top, scalarW, flatW}
 use Rattle.definition.specs.Instructions.{Sig}
-use Rattle.definition.specs.Ops.{Row, ops, Op}
+use Rattle.definition.specs.Ops.{Row, ops, Op, instr, named-kind, has-kind}
 use Rattle.definition.specs.Module.{Slot, Shared, Private, Code, Header, Module, all-consts, all-ops}
 use Rattle.definition.specs.Format.{Bytes, bits, Item, text, number, among, numbers, shape, shapes, Maker, Form, form, Shape-reader, _and-then_, provided}
 use Rattle.definition.specs.Format.{strip, bytes, digits-from, begins-number, number-at, numbers-at, begins-with, shapes-at, parse, front, nothing-after}
@@ -38,7 +38,7 @@ At-most = All2 (λ (n m : ℕ). n ≤ m)
 
 pub record Header-fits (h : Header) : Type 0 where
   pub word : T (is-member (h .word) (1 ∷ 2 ∷ 4 ∷ 8 ∷ []))
-  pub float : T (is-member (h .float) (1 ∷ 2 ∷ 4 ∷ 8 ∷ []))
+  pub float : T (is-member (h .float) (0 ∷ 1 ∷ 2 ∷ 4 ∷ 8 ∷ []))
   pub address-log : T (is-member (h .address-log) (3 ∷ 4 ∷ 5 ∷ 6 ∷ []))
   pub shared-bytes : h .shared-bytes ≤ bits 32
   pub pool-bytes : h .pool-bytes ≤ bits 32
@@ -60,6 +60,10 @@ Const-fits k = T (is-member k (0 ∷ 1 ∷ 2 ∷ 3 ∷ 4 ∷ 5 ∷ 6 ∷ 255 ∷
 -- an op is of a row of the table, with as many operands as the row has maxima
 abbrev pub Op-fits : Op → Type 0
 Op-fits o = (r : Row) × (getElem? ops (o .code) ≡ some r) × At-most (o .operands) (r .maxima)
+
+-- an op names no kind that the module lacks
+abbrev pub Has-kind : Header → Op → Type 0
+Has-kind h o = has-kind (h .float) (named-kind (instr o)) ≡ true
 
 pub record Code-fits (c : Code) : Type 0 where
   pub locals : c .locals ≤ 32
@@ -471,12 +475,33 @@ tables-more m (const-line k) f e t = const-more k m t f (room _ 1024 e)
 tables-more m (op-line o) f e t = op-more o m t f (room _ 4096 e)
 tables-more m close-line f e t = t
 
+-- the instructions of a module name no kind that it lacks
+abbrev pub Kinds-fit : Module → Type 0
+Kinds-fit m = Each (λ (c : Code). Each (Has-kind (m .header)) (c .ops)) (m .chunks)
+
+kinds-more : (m : Module) (l : Line) (p q : ℕ) → follow (m .header) p l ≡ some q → Kinds-fit m → Kinds-fit (add m l)
+unfolding follow add add-const add-op
+kinds-more m (first-line h) p q e k = nobody
+kinds-more m (slot-line s) p q e k = k
+kinds-more m (shared-line s) p q e k = k
+kinds-more m (private-line s) p q e k = k
+kinds-more m (enum-line n) p q e k = k
+kinds-more m (native-line w) p q e k = k
+kinds-more m (sig-line g) p q e k = k
+kinds-more m (chunk-line n) p q e k = each-more (m .chunks) _ k nobody
+kinds-more m (const-line c) p q e k = last-each (add-const c) (λ x y. y) (m .chunks) k
+kinds-more m (op-line o) p q e k =
+    let t = and-true (within 8 9 p) _ (provided-some _ 9 q e .0) in
+    last-each (add-op o) (λ x y. each-more (x .ops) o y (t .1)) (m .chunks) k
+kinds-more m close-line p q e k = k
+
 -- ── The reader ────────────────────────────────────────────────────────────────────────────
 
 -- What holds of the reader: its header once the first line is read, and its tables.
 record Reader-fits (r : Reader) : Type 0 where
   header : 1 ≤ r .place → Header-fits (r .so-far .header) × (r .so-far .header .index-trap ≢ r .so-far .header .host-trap)
   tables : Tables-fit (r .so-far)
+  kinds : Kinds-fit (r .so-far)
 
 not-true : (b : Bool) → not b ≡ true → b ≡ false
 not-true true e = absurd (no-false e)
@@ -489,7 +514,14 @@ after-first a b p q r e =
     let t = and-true (leb (suc a) p) (leb p b) (provided-some (leb (suc a) p && leb p b) q r e .0) in
     omega (arith, leb→le (suc a) p (T-of (t .0)))
 
-header-more : (r : Reader) (l : Line) (q : ℕ) → follow (r .place) l ≡ some q → Line-fits l → Reader-fits r →
+after-first-and : (x : Bool) (a b p q r : ℕ) → provided (within (suc a) b p && x) q ≡ some r → 1 ≤ p
+unfolding within
+after-first-and x a b p q r e =
+    let s = and-true (within (suc a) b p) x (provided-some (within (suc a) b p && x) q r e .0) in
+    let t = and-true (leb (suc a) p) (leb p b) (s .0) in
+    omega (arith, leb→le (suc a) p (T-of (t .0)))
+
+header-more : (r : Reader) (l : Line) (q : ℕ) → follow (r .so-far .header) (r .place) l ≡ some q → Line-fits l → Reader-fits r →
     Header-fits (add (r .so-far) l .header) × (add (r .so-far) l .header .index-trap ≢ add (r .so-far) l .header .host-trap)
 unfolding follow add
 header-more r (first-line h) q e f g =
@@ -503,7 +535,7 @@ header-more r (native-line w) q e f g = g .header (after-first 0 5 (r .place) 5 
 header-more r (sig-line s) q e f g = g .header (after-first 0 6 (r .place) 6 q e)
 header-more r (chunk-line n) q e f g = g .header (after-first 0 7 (r .place) 8 q e)
 header-more r (const-line k) q e f g = g .header (after-first 7 8 (r .place) 8 q e)
-header-more r (op-line o) q e f g = g .header (after-first 7 9 (r .place) 9 q e)
+header-more r (op-line o) q e f g = g .header (after-first-and _ 7 9 (r .place) 9 q e)
 header-more r close-line q e f g = g .header (after-first 0 9 (r .place) _ q e)
 
 or-line-ok : {A : Type 0} (n : ℕ) (o : Option A) (a : A) → or-line n o ≡ ok a → o ≡ some a
@@ -517,17 +549,18 @@ next-fits n r q bs e g =
     let a = bind-ok (or-line n (read-line bs)) _ q e in
     let l : Line = a .0 in
     let f : Line-fits l = line-fits bs l (or-line-ok n (read-line bs) l (a .1)) in
-    let b = bind-ok (or-line n (follow (r .place) l)) _ q (a .2) in
-    let h : follow (r .place) l ≡ some (b .0) = or-line-ok n (follow (r .place) l) (b .0) (b .1) in
+    let b = bind-ok (or-line n (follow (r .so-far .header) (r .place) l)) _ q (a .2) in
+    let h : follow (r .so-far .header) (r .place) l ≡ some (b .0) = or-line-ok n (follow (r .so-far .header) (r .place) l) (b .0) (b .1) in
     let d = pass-ok (limits (r .so-far) l) (record { place = b .0; so-far = add (r .so-far) l }) q (b .2) in
     subst Reader-fits (d .1)
-    (record { header = λ k. header-more r l (b .0) h f g; tables = tables-more (r .so-far) l f (d .0) (g .tables) })
+    (record { header = λ k. header-more r l (b .0) h f g; tables = tables-more (r .so-far) l f (d .0) (g .tables); kinds = kinds-more (r .so-far) l _ _ h (g .kinds) })
 
 -- What a listing gives, where it is read.
 pub record Fits (m : Module) : Type 0 where
   pub header : Header-fits (m .header)
   pub traps : m .header .index-trap ≢ m .header .host-trap
   pub tables : Tables-fit m
+  pub kinds : Kinds-fit m
 
 lines-fit : (n : ℕ) (r : Reader) (ls : Lines) (m : Module) → read-lines n r ls ≡ ok m → Reader-fits r → Fits m
 unfolding read-lines
@@ -535,7 +568,7 @@ lines-fit n r (end rest) m e g =
     let p = provided-some (eqb (r .place) 10 && is-empty rest) (r .so-far) m (or-line-ok n _ m e) in
     let k : r .place ≡ 10 = eqb-eq (and-true (eqb (r .place) 10) _ (p .0) .0) in
     let h = g .header (omega arith) in
-    subst Fits (p .1) (record { header = h .0; traps = h .1; tables = g .tables })
+    subst Fits (p .1) (record { header = h .0; traps = h .1; tables = g .tables; kinds = g .kinds })
 lines-fit n r (line l ls) m e g =
     let p = bind-ok (next-line n r l) _ m e in
     lines-fit (suc n) (p .0) ls m (p .2) (next-fits n r (p .0) l (p .1) g)
@@ -545,4 +578,4 @@ pub read-fits : (listing : Bytes) (m : Module) → read listing ≡ ok m → Fit
 unfolding read at-start
 read-fits listing m e =
     let p = bind-ok (pass (unless (leb (length listing) 65536) (limit 1)) listing) _ m e in
-    lines-fit 0 at-start (cut (p .0)) m (p .2) (record { header = λ h. absurd (omega arith); tables = none-yet _ })
+    lines-fit 0 at-start (cut (p .0)) m (p .2) (record { header = λ h. absurd (omega arith); tables = none-yet _; kinds = nobody })
