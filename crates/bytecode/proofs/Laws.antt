@@ -12,9 +12,9 @@ use borrow.Author.Tests.{le-leb, lt-leb, lt-ltb, le-ltb, eq-eqb, ne-eqb}
 use lib.Dec.{leb, ltb, eqb}
 use lib.ListN.{length, getD, getElem?, List·getD-map, List·getD-eq-default, length-map}
 use Rattle.definition.specs.Basics.{choose, saturating-add, is-member}
-use Rattle.definition.specs.Shapes.{Shape, unknown, scalar, composite, Wire, top, from-wire, if-same}
+use Rattle.definition.specs.Shapes.{Shape, unknown, scalar, composite, Wire, top, from-wire, if-same, is-lacking, top-if, known-wire}
 use Rattle.definition.specs.Instructions.{Sig}
-use Rattle.definition.specs.Module.{no-sig, under-check, Header as AnyHeader, address-bytes}
+use Rattle.definition.specs.Module.{no-sig, under-check, known-sig, known-const, Header as AnyHeader, address-bytes}
 use Rattle.definition.specs.Effects.{shape-of, returned, returned-native}
 use Rattle.definition.specs.Ops.{instr}
 use Rattle.bytecode.specs.Tables.{base, stride, row-at}
@@ -22,7 +22,7 @@ use Rattle.bytecode.specs.Lists.{limited, limited-le, limited-same, limi
 use Rattle.bytecode.specs.Lists.{tabulate-past, tabulate-map}
 use Rattle.bytecode.specs.Meaning.{cell, count, wireOf, wire-of, instrAt, opAt, op-of, maxima-of, nativesOf, nativeAt, sigsOf, sigAt, params-at}
 use Rattle.bytecode.specs.Meaning.{enumsOf, enumAt, headerOf, chunkOf, codeOf, constAt, first-const, const-count, firstAt, endAt, count-low}
-use Rattle.bytecode.specs.Meaning.{first-low, end-low, enum-sizesOf, address-low}
+use Rattle.bytecode.specs.Meaning.{first-low, end-low, enum-sizesOf, address-low, knownOf, listed-sigAt, listed-constAt, moduleOf}
 use Rattle.bytecode.specs.Operands.{three-enough}
 use Rattle.bytecode.specs.Parts.{instrOf, Instr-is, sig-shape, Span-is, header-of, Widths-of}
 use Rattle.bytecode.specs.declared.Instr.{Instr}
@@ -32,33 +32,44 @@ use Rattle.value_layout.specs.declared.Widths.{Widths}
 
 -- ── A shape's word ────────────────────────────────────────────────────────────────────────
 
-module _ (w : ℕ) where
-  pub scalar-known : w % 4 ≡ 1 → leb (w / 4 % 256) 7 ≡ true → scalar (w / 4 % 256) ≡ from-wire (wireOf w)
-  unfolding wireOf wire-of from-wire if-same
-  scalar-known e h = rw (e, h)
+module _ (f w : ℕ) where
+  pub scalar-lacking : w % 4 ≡ 1 → is-lacking f (w / 4 % 256) ≡ true → unknown ≡ from-wire (known-wire f (wireOf w))
+  unfolding wireOf wire-of known-wire top-if from-wire
+  scalar-lacking e l = rw (e, l)
 
-  pub scalar-other : w % 4 ≡ 1 → leb (w / 4 % 256) 7 ≡ false → unknown ≡ from-wire (wireOf w)
-  unfolding wireOf wire-of from-wire if-same
-  scalar-other e h = rw (e, h)
+  module _ (e : w % 4 ≡ 1) (l : is-lacking f (w / 4 % 256) ≡ false) where
+    pub scalar-known : leb (w / 4 % 256) 7 ≡ true → scalar (w / 4 % 256) ≡ from-wire (known-wire f (wireOf w))
+    unfolding wireOf wire-of known-wire top-if from-wire if-same
+    scalar-known h = rw (e, l, h)
 
-  pub flat-known : w % 4 ≡ 2 → leb (w / 4 % 256) 3 ≡ true → composite (w / 4 % 256) (limited 4294967295 (w / 1024)) none ≡ from-wire (wireOf w)
-  unfolding wireOf wire-of from-wire if-same
+    pub scalar-other : leb (w / 4 % 256) 7 ≡ false → unknown ≡ from-wire (known-wire f (wireOf w))
+    unfolding wireOf wire-of known-wire top-if from-wire if-same
+    scalar-other h = rw (e, l, h)
+
+  pub flat-known : w % 4 ≡ 2 → leb (w / 4 % 256) 3 ≡ true
+      → composite (w / 4 % 256) (limited 4294967295 (w / 1024)) none ≡ from-wire (known-wire f (wireOf w))
+  unfolding wireOf wire-of known-wire from-wire if-same
   flat-known e h = rw (e, h)
 
-  pub flat-other : w % 4 ≡ 2 → leb (w / 4 % 256) 3 ≡ false → unknown ≡ from-wire (wireOf w)
-  unfolding wireOf wire-of from-wire if-same
+  pub flat-other : w % 4 ≡ 2 → leb (w / 4 % 256) 3 ≡ false → unknown ≡ from-wire (known-wire f (wireOf w))
+  unfolding wireOf wire-of known-wire from-wire if-same
   flat-other e h = rw (e, h)
 
-  other-tag : (m k n : ℕ) → (m ≡ 1 → ⊥) → (m ≡ 2 → ⊥) → unknown ≡ from-wire (wire-of m k n)
-  unfolding wire-of from-wire
+  other-tag : (m k n : ℕ) → (m ≡ 1 → ⊥) → (m ≡ 2 → ⊥) → unknown ≡ from-wire (known-wire f (wire-of m k n))
+  unfolding wire-of known-wire from-wire
   other-tag zero k n p q = refl
   other-tag (suc zero) k n p q = absurd (p refl)
   other-tag (suc (suc zero)) k n p q = absurd (q refl)
   other-tag (suc (suc (suc m))) k n p q = refl
 
-  pub neither : (w % 4 ≡ 1 → ⊥) → (w % 4 ≡ 2 → ⊥) → unknown ≡ from-wire (wireOf w)
+  pub neither : (w % 4 ≡ 1 → ⊥) → (w % 4 ≡ 2 → ⊥) → unknown ≡ from-wire (known-wire f (wireOf w))
   unfolding wireOf
   neither p q = other-tag (w % 4) (w / 4 % 256) (limited 4294967295 (w / 1024)) p q
+
+-- the word of a shape in a table, and the module's own bytes of a float
+pub known-by : (t : List ℕ) (f w x : ℕ) → f ≡ headerOf t .float → w ≡ x → from-wire (known-wire f (wireOf w)) ≡ from-wire (knownOf t x)
+unfolding knownOf
+known-by t f w x e d = rw (e, d)
 
 -- ── An instruction ────────────────────────────────────────────────────────────────────────
 
@@ -83,7 +94,7 @@ instr-is t i at r e k a b d =
 -- ── Natives and signatures ────────────────────────────────────────────────────────────────
 
 module _ (t : List ℕ) (k : ℕ) where
-  pub native-in : k < count t 5 → from-wire (wireOf (cell t 5 k 1)) ≡ shape-of (returned-native (getElem? (nativesOf t) k))
+  pub native-in : k < count t 5 → from-wire (knownOf t (cell t 5 k 1)) ≡ shape-of (returned-native (getElem? (nativesOf t) k))
   unfolding nativesOf nativeAt returned-native shape-of
   native-in h = rw (tabulate-some 0 (count t 5) (nativeAt t) k h, zero-add k)
 
@@ -99,7 +110,7 @@ module _ (t : List ℕ) (k : ℕ) where
   unfolding sigsOf
   sig-out h = tabulate-past 0 (count t 6) (sigAt t) no-sig k h
 
-  pub shape-in : (j : ℕ) → k < count t 6 → from-wire (wireOf (cell t 6 k j)) ≡ sig-shape t k j
+  pub shape-in : (j : ℕ) → k < count t 6 → from-wire (knownOf t (cell t 6 k j)) ≡ sig-shape t k j
   unfolding sig-shape
   shape-in j h = rw (sig-shape, lt-ltb k (count t 6) h)
 
@@ -108,22 +119,25 @@ module _ (t : List ℕ) (k : ℕ) where
   shape-out j h = rw (sig-shape, le-ltb k (count t 6) h)
 
   pub return-is : sig-shape t k 1 ≡ shape-of (returned (getElem? (sigsOf t) k))
-  unfolding sigsOf sigAt returned shape-of
+  unfolding sigsOf sigAt listed-sigAt knownOf known-sig returned shape-of
   return-is = elim (decLt k (count t 6)) [
     | yes p ↦ sym (shape-in 1 p) ∙ (rw (tabulate-some 0 (count t 6) (sigAt t) k p, zero-add k))
     | no q ↦ sym (shape-out 1 (omega arith)) ∙ (rw (tabulate-none 0 (count t 6) (sigAt t) k (omega arith)))
   ]
 
   pub resume-is : sig-shape t k 2 ≡ from-wire (getD (sigsOf t) k no-sig .resume)
-  unfolding sigAt no-sig from-wire
+  unfolding sigAt listed-sigAt knownOf known-sig no-sig from-wire
   resume-is = elim (decLt k (count t 6)) [
     | yes p ↦ sym (shape-in 2 p) ∙ ap (λ (g : Sig). from-wire (g .resume)) (sym (sig-in p))
     | no q ↦ sym (shape-out 2 (omega arith)) ∙ ap (λ (g : Sig). from-wire (g .resume)) (sym (sig-out (omega arith)))
   ]
 
   pub params-in : k < count t 6 → length (getD (sigsOf t) k no-sig .params) ≡ params-at t k
-  unfolding sigAt
-  params-in h = ap (λ (g : Sig). length (g .params)) (sig-in h) ∙ tabulate-length 3 (params-at t k) (λ j. wireOf (cell t 6 k j))
+  unfolding sigAt listed-sigAt known-sig
+  params-in h =
+      ap (λ (g : Sig). length (g .params)) (sig-in h)
+      ∙ length-map (tabulate 3 (params-at t k) (λ j. wireOf (cell t 6 k j))) (known-wire (headerOf t .float))
+      ∙ tabulate-length 3 (params-at t k) (λ j. wireOf (cell t 6 k j))
 
   pub params-out : count t 6 ≤ k → 0 ≡ length (getD (sigsOf t) k no-sig .params)
   unfolding no-sig
@@ -135,12 +149,14 @@ module _ (t : List ℕ) (k : ℕ) where
 
   param-at : (j : ℕ) → k < count t 6 → j < params-at t k
       → sig-shape t k (j + 3) ≡ getD (map from-wire (sigAt t k .params)) j unknown
-  unfolding sigAt from-wire
+  unfolding sigAt listed-sigAt knownOf known-sig from-wire
   param-at j h l =
       sym (shape-in (j + 3) h)
-      ∙ ap (λ (m : ℕ). from-wire (wireOf (cell t 6 k m))) (let e : j + 3 ≡ 3 + j = omega arith in e)
-      ∙ ap from-wire (sym (tabulate-at 3 (params-at t k) (λ i. wireOf (cell t 6 k i)) top j l))
-      ∙ sym (List·getD-map from-wire (tabulate 3 (params-at t k) (λ i. wireOf (cell t 6 k i))) j top)
+      ∙ ap (λ (m : ℕ). from-wire (knownOf t (cell t 6 k m))) (let e : j + 3 ≡ 3 + j = omega arith in e)
+      ∙ ap from-wire (sym (tabulate-at 3 (params-at t k) (λ i. knownOf t (cell t 6 k i)) top j l))
+      ∙ sym (List·getD-map from-wire (tabulate 3 (params-at t k) (λ i. knownOf t (cell t 6 k i))) j top)
+      ∙ ap (λ (ws : List Wire). getD (map from-wire ws) j unknown)
+      (sym (tabulate-map (known-wire (headerOf t .float)) 3 (params-at t k) (λ i. wireOf (cell t 6 k i))))
 
   pub param-is : (j : ℕ) → j < length (getD (sigsOf t) k no-sig .params)
       → sig-shape t k (j + 3) ≡ getD (map from-wire (getD (sigsOf t) k no-sig .params)) j unknown
@@ -215,13 +231,33 @@ module _ (t : List ℕ) (table j k : ℕ) where
       record { first-is = p; count-is = omega arith; within = omega (arith, end-low t table j k, count-low t table) }
 
 module _ (t : List ℕ) (k p : ℕ) where
+  consts-known : chunkOf t k .consts ≡ tabulate (first-const t k) (const-count t k) (constAt t)
+  unfolding chunkOf under-check codeOf moduleOf constAt
+  consts-known = tabulate-map (known-const (headerOf t .float)) (first-const t k) (const-count t k) (listed-constAt t)
+
   pub const-in : (at : ℕ) → at ≡ first-const t k + p → p < const-count t k → some (constAt t at) ≡ getElem? (chunkOf t k .consts) p
-  unfolding chunkOf under-check codeOf
-  const-in at e h = ap (λ (m : ℕ). some (constAt t m)) e ∙ sym (tabulate-some (first-const t k) (const-count t k) (constAt t) p h)
+  const-in at e h =
+      ap (λ (m : ℕ). some (constAt t m)) e
+      ∙ sym (tabulate-some (first-const t k) (const-count t k) (constAt t) p h)
+      ∙ ap (λ (l : List ℕ). getElem? l p) (sym consts-known)
 
   pub const-out : const-count t k ≤ p → none ≡ getElem? (chunkOf t k .consts) p
-  unfolding chunkOf under-check codeOf
-  const-out h = sym (tabulate-none (first-const t k) (const-count t k) (constAt t) p h)
+  const-out h = sym (tabulate-none (first-const t k) (const-count t k) (constAt t) p h) ∙ ap (λ (l : List ℕ). getElem? l p) (sym consts-known)
+
+-- ── Kinds that a module lacks ─────────────────────────────────────────────────────────────
+
+module _ (f k : ℕ) (b : Bool) (e : b ≡ is-lacking f k) where
+  pub const-lacking : b ≡ true → 255 ≡ known-const f k
+  unfolding known-const choose
+  const-lacking h = rw (sym e ∙ h)
+
+  pub const-had : b ≡ false → k ≡ known-const f k
+  unfolding known-const choose
+  const-had h = rw (sym e ∙ h)
+
+pub float-is : (t : List ℕ) (n : ℕ) → n ≡ limited 8 (getD t 18 0) → n ≡ headerOf t .float
+unfolding headerOf base stride
+float-is t n e = e
 
 -- ── The widths of a module ─────────────────────────────────────────────────────────────────
 

@@ -7,13 +7,13 @@ use mathlib.Core.List.{List, [], _∷_, map}
 use Prim.Native.Nat.{ℕ, zero, suc, _+_, _-_, _*_, _/_, _%_, _≤_, _<_}
 use native.Mathlib.Omega.{arith}
 use lib.Dec.{eqb, ltb}
-use lib.ListN.{length, getD, getElem?}
+use lib.ListN.{length, getD, getElem?, List·getD-map}
 use Rattle.definition.specs.Basics.{choose, saturating-add}
-use Rattle.definition.specs.Shapes.{Wire, top, scalarW, flatW}
+use Rattle.definition.specs.Shapes.{Wire, top, scalarW, flatW, known-wire}
 use Rattle.definition.specs.Format.{bits}
 use Rattle.definition.specs.Instructions.{Sig, Chunk, Instr}
 use Rattle.definition.specs.Ops.{Row, ops, Op, instr}
-use Rattle.definition.specs.Module.{Slot, shared, private, Shared, Private, Code, Header, Module, under-check, address-bytes, no-sig}
+use Rattle.definition.specs.Module.{Slot, shared, private, Shared, Private, Code, Header, Module, under-check, address-bytes, no-sig, known-sig, known-const}
 use Rattle.bytecode.specs.Tables.{row-at, cap}
 use Rattle.bytecode.specs.Lists.{limited, limited-le, tabulate, tabulate-length, tabulate-some, tabulate-none, tabulate-map}
 
@@ -65,23 +65,37 @@ wire-of (suc (suc (suc m))) k n = top
 unfoldable pub wireOf : ℕ → Wire
 wireOf w = wire-of (w % 4) (w / 4 % 256) (limited (bits 32) (w / 1024))
 
+-- The same as the walk takes it: known where the module has its kind.
+unfoldable pub knownOf : List ℕ → ℕ → Wire
+knownOf t w = known-wire (headerOf t .float) (wireOf w)
+
+-- an entry as it is listed, and as the walk takes it
+unfoldable pub listed-nativeAt : List ℕ → ℕ → Wire
+listed-nativeAt t i = wireOf (cell t 5 i 1)
+
 unfoldable pub nativeAt : List ℕ → ℕ → Wire
-nativeAt t i = wireOf (cell t 5 i 1)
+nativeAt t i = knownOf t (cell t 5 i 1)
 
 -- A signature's row: how many shapes, RET, RESUME, the parameters.
 unfoldable pub params-at : List ℕ → ℕ → ℕ
 params-at t i = limited 16 (cell t 6 i 0 - 2)
 
-unfoldable pub sigAt : List ℕ → ℕ → Sig
-sigAt t i =
+unfoldable pub listed-sigAt : List ℕ → ℕ → Sig
+listed-sigAt t i =
     record {
       ret = wireOf (cell t 6 i 1);
       resume = wireOf (cell t 6 i 2);
       params = tabulate 3 (params-at t i) (λ j. wireOf (cell t 6 i j));
     }
 
+unfoldable pub sigAt : List ℕ → ℕ → Sig
+sigAt t i = known-sig (headerOf t .float) (listed-sigAt t i)
+
+unfoldable pub listed-constAt : List ℕ → ℕ → ℕ
+listed-constAt t i = limited (bits 8) (cell t 8 i 1)
+
 unfoldable pub constAt : List ℕ → ℕ → ℕ
-constAt t i = limited (bits 8) (cell t 8 i 1)
+constAt t i = known-const (headerOf t .float) (listed-constAt t i)
 
 -- ── Instructions ──────────────────────────────────────────────────────────────────────────
 
@@ -136,7 +150,7 @@ unfoldable pub codeOf : List ℕ → ℕ → Code
 codeOf t k =
     record {
       locals = localsAt t k;
-      consts = tabulate (first-const t k) (const-count t k) (constAt t);
+      consts = tabulate (first-const t k) (const-count t k) (listed-constAt t);
       ops = tabulate (first-op t k) (op-count t k) (opAt t);
     }
 
@@ -158,8 +172,14 @@ enumsOf t = tabulate 0 (count t 4) (enumAt t)
 unfoldable pub enum-sizesOf : List ℕ → List ℕ
 enum-sizesOf t = map (saturating-add (headerOf t .word)) (enumsOf t)
 
+unfoldable pub listed-natives : List ℕ → List Wire
+listed-natives t = tabulate 0 (count t 5) (listed-nativeAt t)
+
 unfoldable pub nativesOf : List ℕ → List Wire
 nativesOf t = tabulate 0 (count t 5) (nativeAt t)
+
+unfoldable pub listed-sigs : List ℕ → List Sig
+listed-sigs t = tabulate 0 (count t 6) (listed-sigAt t)
 
 unfoldable pub sigsOf : List ℕ → List Sig
 sigsOf t = tabulate 0 (count t 6) (sigAt t)
@@ -172,8 +192,8 @@ moduleOf t =
       shareds = sharedsOf t;
       privates = privatesOf t;
       enums = enumsOf t;
-      natives = nativesOf t;
-      sigs = sigsOf t;
+      natives = listed-natives t;
+      sigs = listed-sigs t;
       chunks = tabulate 0 (count t 7) (codeOf t);
     }
 
@@ -212,16 +232,18 @@ module _ (t : List ℕ) (k : ℕ) where
   chunk-enum-sizes = refl
 
   pub chunk-natives : chunkOf t k .natives ≡ nativesOf t
-  unfolding chunkOf under-check moduleOf
-  chunk-natives = refl
+  unfolding chunkOf under-check moduleOf listed-natives listed-nativeAt nativesOf nativeAt knownOf
+  chunk-natives = tabulate-map (known-wire (headerOf t .float)) 0 (count t 5) (listed-nativeAt t)
 
   pub chunk-sigs : chunkOf t k .sigs ≡ sigsOf t
-  unfolding chunkOf under-check moduleOf
-  chunk-sigs = refl
+  unfolding chunkOf under-check moduleOf listed-sigs sigsOf sigAt
+  chunk-sigs = tabulate-map (known-sig (headerOf t .float)) 0 (count t 6) (listed-sigAt t)
 
   pub chunk-sig : chunkOf t k .sig ≡ getD (sigsOf t) k no-sig
-  unfolding chunkOf under-check moduleOf
-  chunk-sig = refl
+  unfolding chunkOf under-check moduleOf listed-sigs sigsOf sigAt no-sig known-sig known-wire
+  chunk-sig =
+      sym (List·getD-map (known-sig (headerOf t .float)) (listed-sigs t) k no-sig)
+      ∙ ap (λ (l : List Sig). getD l k no-sig) (tabulate-map (known-sig (headerOf t .float)) 0 (count t 6) (listed-sigAt t))
 
   pub chunk-locals : chunkOf t k .locals ≡ localsAt t k
   unfolding chunkOf under-check codeOf

@@ -14,7 +14,7 @@ use Rattle.definition.specs.Ops.{instr}
 use Rattle.definition.specs.Module.{Shared, Private, Header as AnyHeader, address-bytes}
 use Rattle.value_layout.specs.declared.Widths.{Widths}
 use Rattle.bytecode.specs.Tables.{cap}
-use Rattle.bytecode.specs.Meaning.{cell, count, headerOf, enumsOf, wireOf, firstAt, endAt, instrAt, opAt, maxima-of}
+use Rattle.bytecode.specs.Meaning.{cell, count, headerOf, enumsOf, knownOf, firstAt, endAt, instrAt, opAt, maxima-of}
 use Rattle.bytecode.specs.declared.Span.{Span}
 use Rattle.bytecode.specs.declared.Constant.{Constant}
 use Rattle.bytecode.specs.declared.Constant.the-variants.{Kind, Missing}
@@ -58,7 +58,7 @@ declared-shape (Composite k n) = composite k n none
 
 -- Shape j of signature k: 1 is RET, 2 RESUME, and the parameters follow.
 unfoldable pub sig-shape : List ℕ → ℕ → ℕ → Shape
-sig-shape t k j = elim (ltb k (count t 6)) [ true ↦ from-wire (wireOf (cell t 6 k j)) | false ↦ unknown ]
+sig-shape t k j = elim (ltb k (count t 6)) [ true ↦ from-wire (knownOf t (cell t 6 k j)) | false ↦ unknown ]
 
 -- The rows of a table that are chunk k's.
 pub record Span-is (t : List ℕ) (table j k : ℕ) (r : Span) : Type 0 where

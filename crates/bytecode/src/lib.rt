@@ -7,8 +7,8 @@ ghost use mathlib.Core.List.{map};
 ghost use lib.ListN.{length, getD, getElem?};
 ghost use Rattle.definition.specs.Format.{bits};
 ghost use Rattle.definition.specs.Basics.{is-member, saturating-add};
-ghost use Rattle.definition.specs.Shapes.{from-wire, unknown};
-ghost use Rattle.definition.specs.Module.{no-sig};
+ghost use Rattle.definition.specs.Shapes.{from-wire, known-wire, unknown};
+ghost use Rattle.definition.specs.Module.{no-sig, known-const};
 ghost use Rattle.definition.specs.Effects.{shape-of, returned, returned-native};
 ghost use Rattle.bytecode.specs.Tables.{tables, stride, cap, base, size, row-at, Appended};
 ghost use Rattle.bytecode.specs.Lists.{limited};
@@ -249,6 +249,13 @@ pub fn widths(t: &[u64]) -> Widths
     }
 }
 
+// Bytes of a float alone; 0 where there are none.
+pub fn float_of(t: &[u64]) -> u8
+    ensures { λ r. ⌜ r ≡ headerOf (now (t .entry)) .float ⌝ }
+{
+    limited8(word(t, FLOAT_BYTES), 8)
+}
+
 // Whether slot i is shared; else it is private.
 pub fn slot_shared(t: &[u64], i: usize) -> bool
     requires { ⌜ i < 256 ⌝ }
@@ -309,13 +316,16 @@ pub enum WireShape {
     Composite(u8, u32),
 }
 
-// The shape of a wire word: 2 bits say which, then 8 bits of K, then SIZE.
-fn shape_of_word(w: u64) -> WireShape
-    ensures { λ r. ⌜ declared-shape r ≡ from-wire (wireOf w) ⌝ }
+// The shape of a wire word: 2 bits say which, then 8 bits of K, then SIZE. A scalar of a kind that the module lacks is unknown.
+fn shape_of_word(float: u8, w: u64) -> WireShape
+    ensures { λ r. ⌜ declared-shape r ≡ from-wire (known-wire float (wireOf w)) ⌝ }
 {
     let tag = w % 4;
     let k = (w / 4 % 256) as u8;
     if tag == 1 {
+        if value_layout::is_lacking(float, k) {
+            return WireShape::Unknown;
+        }
         if value_layout::is_scalar_tag(k) {
             return WireShape::Scalar(k);
         }
@@ -335,7 +345,7 @@ pub fn native_shape(t: &[u64], k: usize) -> WireShape
     ensures { λ r. ⌜ declared-shape r ≡ shape-of (returned-native (getElem? (nativesOf (now (t .entry))) k)) ⌝ }
 {
     if k < count(t, NATIVES) {
-        return shape_of_word(cell(t, NATIVES, k, 1));
+        return shape_of_word(float_of(t), cell(t, NATIVES, k, 1));
     }
     WireShape::Unknown
 }
@@ -346,7 +356,7 @@ fn sig_shape(t: &[u64], k: usize, j: usize) -> WireShape
     ensures { λ r. ⌜ declared-shape r ≡ sig-shape (now (t .entry)) k j ⌝ }
 {
     if k < count(t, SIGNATURES) {
-        return shape_of_word(cell(t, SIGNATURES, k, j));
+        return shape_of_word(float_of(t), cell(t, SIGNATURES, k, j));
     }
     WireShape::Unknown
 }
@@ -482,6 +492,19 @@ pub enum Constant {
     Missing,
 }
 
+// K of a constant that is of no scalar's kind.
+const OTHER_CONSTANT: u8 = 255;
+
+// K of a constant as the walk takes it: one of a kind that the module lacks counts as any other.
+fn known_const(float: u8, k: u8) -> u8
+    ensures { λ r. ⌜ r ≡ known-const float k ⌝ }
+{
+    if value_layout::is_lacking(float, k) {
+        return OTHER_CONSTANT;
+    }
+    k
+}
+
 // Constant j of chunk k.
 pub fn constant_at(t: &[u64], k: usize, j: usize) -> Constant
     requires { ⌜ k < 64 ⌝ }
@@ -492,7 +515,7 @@ pub fn constant_at(t: &[u64], k: usize, j: usize) -> Constant
     let n = s.count;
     if j < n {
         let kind = limited8(cell(t, CONSTANTS, first + j, 1), 255);
-        return Constant::Kind(kind);
+        return Constant::Kind(known_const(float_of(t), kind));
     }
     Constant::Missing
 }

@@ -1,9 +1,12 @@
 -- Laws of widths.
 -- Assumes nothing.
 use mathlib.Core.Path.{_≡_, refl}
+use mathlib.Core.Bool.{false}
 use Prim.Native.Nat.{ℕ, zero, suc, _/_, _^_, _≤_}
 use native.Mathlib.Omega.{arith}
-use Rattle.definition.specs.Shapes.{scalar-widths}
+use borrow.Author.Tests.{ne-eqb}
+use lib.Dec.{eqb}
+use Rattle.definition.specs.Shapes.{scalar-widths, is-lacking}
 use Rattle.definition.specs.Instructions.{Chunk}
 use Rattle.definition.specs.Effects.{width}
 use Rattle.value_layout.specs.declared.Widths.{Widths}
@@ -33,3 +36,13 @@ no-byte zero h n3 n4 n5 n6 = refl
 no-byte (suc zero) h n3 n4 n5 n6 = refl
 no-byte (suc (suc zero)) h n3 n4 n5 n6 = refl
 no-byte (suc (suc (suc a))) h n3 n4 n5 n6 = absurd (omega arith)
+
+-- only a module whose floats have no bytes lacks a kind, and that is theirs
+module _ (f k : ℕ) where
+  pub lacks-not : (f ≡ 0 → ⊥) → false ≡ is-lacking f k
+  unfolding is-lacking
+  lacks-not h = rw (ne-eqb f 0 h)
+
+  pub lacks-float : f ≡ 0 → eqb k 5 ≡ is-lacking f k
+  unfolding is-lacking
+  lacks-float e = rw e

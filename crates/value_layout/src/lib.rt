@@ -2,6 +2,7 @@
 ghost use mathlib.Core.Path.{_≡_};
 ghost use Prim.Native.Nat.{_≤_, _/_, _^_};
 ghost use lib.Dec.{leb};
+ghost use Rattle.definition.specs.Shapes.{is-lacking};
 ghost use Rattle.value_layout.specs.Sizes.{widthOf};
 
 pub mod composite;
@@ -45,6 +46,16 @@ pub fn is_scalar_tag(tag: u8) -> bool
     ensures { λ r. ⌜ r ≡ leb tag 7 ⌝ }
 {
     tag <= scalar::OPAQUE
+}
+
+// Whether a module lacks a kind of scalar, from the bytes of its float: without floats their kind is a tag not known.
+pub fn is_lacking(float: u8, kind: u8) -> bool
+    ensures { λ r. ⌜ r ≡ is-lacking float kind ⌝ }
+{
+    if float != 0 {
+        return false;
+    }
+    kind == scalar::FLOAT
 }
 
 // Whether a tag is that of a composite kind.
