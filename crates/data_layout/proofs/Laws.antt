@@ -13,9 +13,9 @@ use borrow.Author.Tests.{lt-ltb, le-ltb, le-leb, lt-leb, eq-eqb, ne-eqb, leb-tru
 use lib.Dec.{leb}
 use lib.ListN.{length, getD, getElem?}
 use Rattle.definition.specs.Basics.{first, unless}
-use Rattle.definition.specs.Shapes.{scalar-widths}
+use Rattle.definition.specs.Shapes.{scalar-widths, is-lacking}
 use Rattle.definition.specs.Module.{Slot, shared, private, Private, Header, address-bytes}
-use Rattle.definition.specs.Layout.{shared-prefix, shared-count, count-test, scalar-bytes, if-composite, shared-size, shared-fits, shared-test}
+use Rattle.definition.specs.Layout.{shared-prefix, shared-count, count-test, unless-lacking, scalar-bytes, if-composite, shared-size, shared-fits, shared-test}
 use Rattle.definition.specs.Layout.{entry-test, order-test, private-test, layout-test}
 use Rattle.bytecode.specs.Lists.{tabulate, tabulate-length}
 use Rattle.bytecode.specs.Meaning.{count, headerOf, slotAt, slot-of, sharedAt, privateAt, slotsOf, sharedsOf, privatesOf, moduleOf}
@@ -187,25 +187,38 @@ module _ (w : Widths) (e : SharedEntry) (h : Header) (W : Widths-of h w) where
   unfolding shared-size if-composite shared-of size-of
   size-composite l = rw (le-leb 128 (e .kind) l)
 
-  pub size-scalar : (n : ℕ) → e .kind < 128 → leb (e .kind) 7 ≡ true → n ≡ widthOf w (e .kind) → size-of (Bytes n) ≡ shared-size h (shared-of e)
-  unfolding shared-size if-composite shared-of size-of scalar-bytes
-  size-scalar n l k z =
-      let u : e .kind < 8 = omega (arith, leb-true (e .kind) 7 k) in
-      rw (
-        lt-leb 128 (e .kind) l,
-        widths-are,
-        some-at (scalar-widths (w .word) (w .float) (w .address)) (e .kind) (omega (arith, eight (w .word) (w .float) (w .address))),
-        z,
-      )
+  lacks-same : is-lacking (h .float) (e .kind) ≡ is-lacking (w .float) (e .kind)
+  lacks-same = rw (W .float-is)
 
-  pub size-unknown : e .kind < 128 → leb (e .kind) 7 ≡ false → size-of Unknown ≡ shared-size h (shared-of e)
-  unfolding shared-size if-composite shared-of size-of scalar-bytes
-  size-unknown l k =
-      let u : 7 < e .kind = leb-false (e .kind) 7 k in
-      rw (
-        lt-leb 128 (e .kind) l,
-        none-at (scalar-widths (h .word) (h .float) (address-bytes h)) (e .kind) (omega (arith, eight (h .word) (h .float) (address-bytes h))),
-      )
+  module _ (l : e .kind < 128) where
+    pub size-lacking : is-lacking (w .float) (e .kind) ≡ true → size-of Unknown ≡ shared-size h (shared-of e)
+    unfolding shared-size if-composite shared-of size-of scalar-bytes unless-lacking
+    size-lacking f = rw (lt-leb 128 (e .kind) l, lacks-same, f)
+
+    module _ (f : is-lacking (w .float) (e .kind) ≡ false) where
+      pub size-scalar : (n : ℕ) → leb (e .kind) 7 ≡ true → n ≡ widthOf w (e .kind) → size-of (Bytes n) ≡ shared-size h (shared-of e)
+      unfolding shared-size if-composite shared-of size-of scalar-bytes unless-lacking
+      size-scalar n k z =
+          let u : e .kind < 8 = omega (arith, leb-true (e .kind) 7 k) in
+          rw (
+            lt-leb 128 (e .kind) l,
+            lacks-same,
+            f,
+            widths-are,
+            some-at (scalar-widths (w .word) (w .float) (w .address)) (e .kind) (omega (arith, eight (w .word) (w .float) (w .address))),
+            z,
+          )
+
+      pub size-unknown : leb (e .kind) 7 ≡ false → size-of Unknown ≡ shared-size h (shared-of e)
+      unfolding shared-size if-composite shared-of size-of scalar-bytes unless-lacking
+      size-unknown k =
+          let u : 7 < e .kind = leb-false (e .kind) 7 k in
+          rw (
+            lt-leb 128 (e .kind) l,
+            lacks-same,
+            f,
+            none-at (scalar-widths (h .word) (h .float) (address-bytes h)) (e .kind) (omega (arith, eight (h .word) (h .float) (address-bytes h))),
+          )
 
 module _ (buffer i : ℕ) (e : SharedEntry) (s : Size) where
   pub slot-out : (n : ℕ) → s ≡ Bytes n → buffer < e .offset + n

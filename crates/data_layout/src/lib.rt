@@ -87,6 +87,9 @@ fn size_of(w: value_layout::Widths, e: bytecode::SharedEntry) -> Size
     if FIRST_COMPOSITE <= kind {
         return Size::Bytes(len as u32);
     }
+    if value_layout::is_lacking(w.float, kind) {
+        return Size::Unknown;
+    }
     if value_layout::is_scalar_tag(kind) {
         return Size::Bytes(w.size_in_bytes(kind));
     }
