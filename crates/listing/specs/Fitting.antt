@@ -56,7 +56,7 @@ number-fits f (b ∷ bs) r e =
     let p = provided-is _ (digits-from 0 bs) r e in
     subst (λ (x : ℕ × Bytes). T (f (x .0))) (p .1) (and-r (begins-number bs) (f (digits-from 0 bs .0)) (and-r (eqb b 32) _ (p .0)))
 
-numbers-fit : (ms : List ℕ) (bs : Bytes) (r : List ℕ × Bytes) → numbers-at ms bs ≡ some r → Within ms (r .0)
+pub numbers-fit : (ms : List ℕ) (bs : Bytes) (r : List ℕ × Bytes) → numbers-at ms bs ≡ some r → Within ms (r .0)
 unfolding numbers-at
 numbers-fit [] bs r e = let d : _≡_ {A = List ℕ × Bytes} ([], bs) r = cc in subst (λ (x : List ℕ × Bytes). Within [] (x .0)) d tt
 numbers-fit (m ∷ ms) bs r e =
@@ -65,6 +65,13 @@ numbers-fit (m ∷ ms) bs r e =
     let d : _≡_ {A = List ℕ × Bytes} (p .0 .0 ∷ q .0 .0, q .0 .1) r = cc in
     subst (λ (x : List ℕ × Bytes). Within (m ∷ ms) (x .0)) d
     (leb→le (p .0 .0) m (number-fits (λ n. leb n m) bs (p .0) (p .1)), numbers-fit ms (p .0 .1) (q .0) (q .1))
+
+-- as many as there are maxima
+pub within-long : (ms ns : List ℕ) → Within ms ns → length ns ≡ length ms
+within-long [] [] w = refl
+within-long [] (n ∷ ns) w = absurd w
+within-long (m ∷ ms) [] w = absurd w
+within-long (m ∷ ms) (n ∷ ns) w = ap suc (within-long ms ns (w .1))
 
 module _ (reader : Shape-reader) (good : (bs : Bytes) (r : Wire × Bytes) → reader bs ≡ some r → WireFits (r .0)) where
   shapes-fit : (n : ℕ) (bs : Bytes) (r : List Wire × Bytes) → shapes-at reader n bs ≡ some r → All WireFits (r .0)
@@ -177,7 +184,7 @@ unfolding line-forms form apply all-small
 lines-fit = (
   λ v f. record {
     word = member-small 8 _ (1 ∷ 2 ∷ 4 ∷ 8 ∷ []) tt (f .0);
-    float = member-small 8 _ (1 ∷ 2 ∷ 4 ∷ 8 ∷ []) tt (f .1 .0);
+    float = member-small 8 _ (0 ∷ 1 ∷ 2 ∷ 4 ∷ 8 ∷ []) tt (f .1 .0);
     address-log = member-small 6 _ (3 ∷ 4 ∷ 5 ∷ 6 ∷ []) tt (f .1 .1 .0);
     shared-bytes = f .1 .1 .1 .0;
     pool-bytes = f .1 .1 .1 .1 .0;
@@ -419,7 +426,7 @@ next-fits : (n : ℕ) (r q : Reader) (bs : Bytes) → next-line n r bs ≡ ok q 
 unfolding next-line
 next-fits n r q bs e f =
     let a = then-ok (or-line n (read-line bs)) _ q e in
-    let b = then-ok (or-line n (follow (r .place) (a .0))) _ q (a .2) in
+    let b = then-ok (or-line n (follow (r .so-far .header) (r .place) (a .0))) _ q (a .2) in
     let c = pass-ok (limits (r .so-far) (a .0)) _ q (b .2) in
     subst (λ (x : Reader). ModuleFits (x .so-far)) (c .1) (add-fits (r .so-far) (a .0) f (line-fits bs (a .0) (line-ok n (read-line bs) (a .0) (a .1))) (c .0))
 

@@ -10,15 +10,18 @@ use native.Mathlib.Nat.{add-zero, add-suc, suc-add, zero-add}
 use lib.Dec.{T, leb, ltb, eqb, leb·suc-suc}
 use Rattle.definition.specs.Shapes.{Wire}
 use lib.Ieee.Fits.{and-l, and-r}
-use lib.ListN.{length, getD, drop, List·getD-eq-default}
+use lib.ListN.{length, getD, getElem?, drop, List·getD-eq-default}
 use borrow.Author.Tests.{le-leb, ne-eqb}
 use Rattle.definition.specs.Basics.{choose, is-member, unless, first}
 use Rattle.definition.specs.Format.{Bytes, bytes, bits, Item, text, number, among, numbers, shape, shapes, Form, form, Maker, parse, shape-at}
 use Rattle.definition.specs.Format.{_and-then_, nothing-after, whole, provided, number-at}
-use Rattle.definition.specs.Ops.{Row, ops, Op, row}
-use Rattle.definition.specs.Module.{Module, all-consts, all-ops}
+use Rattle.definition.specs.Ops.{Row, ops, Op, row, instr, named-kind, has-kind}
+use Rattle.definition.specs.Module.{Header, Module, all-consts, all-ops}
 use Rattle.definition.specs.Read.{Line, op-line, line-forms, op-forms, within, follow, limits, has-room}
+use Rattle.theorems.specs.KindOf.{has-kinds, kinds-by-maxima}
 use Rattle.bytecode.specs.Tables.{cap}
+use Rattle.bytecode.specs.Meaning.{maxima-of}
+use Rattle.bytecode.specs.Operands.{row-of}
 use Rattle.bytecode.specs.Held.{wire-word, kind, words, length-map, header-words, slot-words, shared-words, private-words, one-word, native-words}
 use Rattle.bytecode.specs.Held.{sig-words, chunk-words, op-words}
 use Rattle.listing.specs.Scan.{max-code, among-code, codes, admitted, item, one, Words, scan, forms, form-codes}
@@ -57,12 +60,16 @@ nexts = 1 ∷ 1 ∷ 2 ∷ 3 ∷ 4 ∷ 5 ∷ 6 ∷ 8 ∷ 8 ∷ 9 ∷ []
 unfoldable pub place-after : ℕ → ℕ → ℕ
 place-after k p = choose (eqb k 10) (choose (leb 8 p) 7 10) (getD nexts k 0)
 
--- I and H are unequal
-unfoldable pub unequal : ℕ → List ℕ → Bool
-unequal f vs = elim (eqb f 0) [ true ↦ not (eqb (getD vs 5 0) (getD vs 6 0)) | false ↦ true ]
+-- I and H are unequal; and where a float has so many bytes, an op names no kind that is lacking
+unfoldable pub may-say : ℕ → ℕ → List ℕ → Bool
+may-say float f vs =
+    elim (eqb f 0) [
+      | true ↦ not (eqb (getD vs 5 0) (getD vs 6 0))
+      | false ↦ elim (leb 11 f) [ true ↦ has-kinds float (maxima-of (f - 11)) vs | false ↦ true ]
+    ]
 
-unfoldable pub may-stand : ℕ → ℕ → List ℕ → Bool
-may-stand p f vs = within (getD lows (form-kind f) 0) (getD highs (form-kind f) 0) p && unequal f vs
+unfoldable pub may-stand : ℕ → ℕ → ℕ → List ℕ → Bool
+may-stand float p f vs = within (getD lows (form-kind f) 0) (getD highs (form-kind f) 0) p && may-say float f vs
 
 -- entries of each table so far; of the header none count
 unfoldable pub counts : Module → List ℕ
@@ -81,7 +88,7 @@ own-limit f vs =
 pub record Fits (l : Line) (f : ℕ) (vs : List ℕ) : Type 0 where
   pub table : kind l ≡ form-kind f
   pub row : (m : Module) → kind l < 10 → words m l ≡ row-words m f vs
-  pub follows : (p : ℕ) → follow p l ≡ provided (may-stand p f vs) (place-after (form-kind f) p)
+  pub follows : (h : Header) (p : ℕ) → follow h p l ≡ provided (may-stand (h .float) p f vs) (place-after (form-kind f) p)
   pub limited : (m : Module) → kind l < 10 → limits m l ≡ first (unless (ltb (getD (counts m) (form-kind f) 0) (cap (form-kind f))) (2 ∷ 0 ∷ 0 ∷ 2 ∷ [])) (own-limit f vs)
   pub unlimited : (m : Module) → kind l ≡ 10 → limits m l ≡ none
   pub short : f < 11 → (f ≡ 7 → ⊥) → length vs ≤ 18
@@ -120,28 +127,28 @@ sig-limit o a b ps =
     (ap (λ (x : Bool). first o (unless x (2 ∷ 0 ∷ 0 ∷ 2 ∷ []))) (sym (leb·suc-suc (suc (length ps)) 17 ∙ leb·suc-suc (length ps) 16)))
 
 pub line-fits : All-right 0 line-forms
-unfolding line-forms form Known known-max is-member ascii bytes admitted among-code choose item apply as-words kind form-kind words row-words head-word tail-words header-words slot-words shared-words private-words one-word native-words sig-words chunk-words follow may-stand place-after unequal limits has-room counts cap own-limit first unless
+unfolding line-forms form Known known-max is-member ascii bytes admitted among-code choose item apply as-words kind form-kind words row-words head-word tail-words header-words slot-words shared-words private-words one-word native-words sig-words chunk-words follow may-stand place-after may-say limits has-room counts cap own-limit first unless
 line-fits = (
-  record { known = (tt, (λ n. refl, λ b. refl, (λ n. refl, λ b. refl, (λ n. refl, λ b. refl, (tt, (tt, (tt, (tt, tt)))))))); fits = λ v. record { table = refl; row = λ m b. refl; follows = λ p. refl; limited = λ m b. refl; unlimited = λ m e. absurd (omega arith); short = λ a b. omega arith; single = λ e. absurd (omega arith) } },
+  record { known = (tt, (λ n. refl, λ b. refl, (λ n. refl, λ b. refl, (λ n. refl, λ b. refl, (tt, (tt, (tt, (tt, tt)))))))); fits = λ v. record { table = refl; row = λ m b. refl; follows = λ h p. refl; limited = λ m b. refl; unlimited = λ m e. absurd (omega arith); short = λ a b. omega arith; single = λ e. absurd (omega arith) } },
   (
-    record { known = (tt, tt); fits = λ v. record { table = refl; row = λ m b. refl; follows = λ p. rw (true-and (within 1 1 p)); limited = λ m b. sym (no-limit _); unlimited = λ m e. absurd (omega arith); short = λ a b. omega arith; single = λ e. absurd (omega arith) } },
+    record { known = (tt, tt); fits = λ v. record { table = refl; row = λ m b. refl; follows = λ h p. rw (true-and (within 1 1 p)); limited = λ m b. sym (no-limit _); unlimited = λ m e. absurd (omega arith); short = λ a b. omega arith; single = λ e. absurd (omega arith) } },
     (
-      record { known = (tt, tt); fits = λ v. record { table = refl; row = λ m b. refl; follows = λ p. rw (true-and (within 1 1 p)); limited = λ m b. sym (no-limit _); unlimited = λ m e. absurd (omega arith); short = λ a b. omega arith; single = λ e. absurd (omega arith) } },
+      record { known = (tt, tt); fits = λ v. record { table = refl; row = λ m b. refl; follows = λ h p. rw (true-and (within 1 1 p)); limited = λ m b. sym (no-limit _); unlimited = λ m e. absurd (omega arith); short = λ a b. omega arith; single = λ e. absurd (omega arith) } },
       (
-        record { known = (tt, (tt, (tt, (tt, (tt, tt))))); fits = λ v. record { table = refl; row = λ m b. refl; follows = λ p. rw (true-and (within 1 2 p)); limited = λ m b. sym (no-limit _); unlimited = λ m e. absurd (omega arith); short = λ a b. omega arith; single = λ e. absurd (omega arith) } },
+        record { known = (tt, (tt, (tt, (tt, (tt, tt))))); fits = λ v. record { table = refl; row = λ m b. refl; follows = λ h p. rw (true-and (within 1 2 p)); limited = λ m b. sym (no-limit _); unlimited = λ m e. absurd (omega arith); short = λ a b. omega arith; single = λ e. absurd (omega arith) } },
         (
-          record { known = (tt, (tt, (tt, (tt, tt)))); fits = λ v. record { table = refl; row = λ m b. refl; follows = λ p. rw (true-and (within 1 3 p)); limited = λ m b. sym (no-limit _); unlimited = λ m e. absurd (omega arith); short = λ a b. omega arith; single = λ e. absurd (omega arith) } },
+          record { known = (tt, (tt, (tt, (tt, tt)))); fits = λ v. record { table = refl; row = λ m b. refl; follows = λ h p. rw (true-and (within 1 3 p)); limited = λ m b. sym (no-limit _); unlimited = λ m e. absurd (omega arith); short = λ a b. omega arith; single = λ e. absurd (omega arith) } },
           (
-            record { known = (tt, (tt, (tt, tt))); fits = λ v. record { table = refl; row = λ m b. refl; follows = λ p. rw (true-and (within 1 4 p)); limited = λ m b. sym (no-limit _); unlimited = λ m e. absurd (omega arith); short = λ a b. omega arith; single = λ e. absurd (omega arith) } },
+            record { known = (tt, (tt, (tt, tt))); fits = λ v. record { table = refl; row = λ m b. refl; follows = λ h p. rw (true-and (within 1 4 p)); limited = λ m b. sym (no-limit _); unlimited = λ m e. absurd (omega arith); short = λ a b. omega arith; single = λ e. absurd (omega arith) } },
             (
-              record { known = (tt, (tt, tt)); fits = λ v. record { table = refl; row = λ m b. refl; follows = λ p. rw (true-and (within 1 5 p)); limited = λ m b. sym (no-limit _); unlimited = λ m e. absurd (omega arith); short = λ a b. omega arith; single = λ e. absurd (omega arith) } },
+              record { known = (tt, (tt, tt)); fits = λ v. record { table = refl; row = λ m b. refl; follows = λ h p. rw (true-and (within 1 5 p)); limited = λ m b. sym (no-limit _); unlimited = λ m e. absurd (omega arith); short = λ a b. omega arith; single = λ e. absurd (omega arith) } },
               (
-                record { known = (tt, (tt, tt)); fits = λ v. record { table = refl; row = λ m b. sig-row (wire-word (v .0)) (wire-word (v .1 .0)) (v .1 .1 .0); follows = λ p. rw (true-and (within 1 6 p)); limited = λ m b. sig-limit (unless (ltb (length (m .sigs)) 64) (2 ∷ 0 ∷ 0 ∷ 2 ∷ [])) (wire-word (v .0)) (wire-word (v .1 .0)) (v .1 .1 .0); unlimited = λ m e. absurd (omega arith); short = λ a b. absurd (b refl); single = λ e. absurd (omega arith) } },
+                record { known = (tt, (tt, tt)); fits = λ v. record { table = refl; row = λ m b. sig-row (wire-word (v .0)) (wire-word (v .1 .0)) (v .1 .1 .0); follows = λ h p. rw (true-and (within 1 6 p)); limited = λ m b. sig-limit (unless (ltb (length (m .sigs)) 64) (2 ∷ 0 ∷ 0 ∷ 2 ∷ [])) (wire-word (v .0)) (wire-word (v .1 .0)) (v .1 .1 .0); unlimited = λ m e. absurd (omega arith); short = λ a b. absurd (b refl); single = λ e. absurd (omega arith) } },
                 (
-                  record { known = (tt, (tt, tt)); fits = λ v. record { table = refl; row = λ m b. refl; follows = λ p. rw (true-and (within 1 7 p)); limited = λ m b. refl; unlimited = λ m e. absurd (omega arith); short = λ a b. omega arith; single = λ e. refl } },
+                  record { known = (tt, (tt, tt)); fits = λ v. record { table = refl; row = λ m b. refl; follows = λ h p. rw (true-and (within 1 7 p)); limited = λ m b. refl; unlimited = λ m e. absurd (omega arith); short = λ a b. omega arith; single = λ e. refl } },
                   (
-                    record { known = (tt, (λ n. refl, λ b. refl, (tt, tt))); fits = λ v. record { table = refl; row = λ m b. refl; follows = λ p. rw (true-and (within 8 8 p)); limited = λ m b. sym (no-limit _); unlimited = λ m e. absurd (omega arith); short = λ a b. omega arith; single = λ e. absurd (omega arith) } },
-                    (record { known = (tt, tt); fits = λ v. record { table = refl; row = λ m b. absurd (omega arith); follows = λ p. rw (true-and (within 1 9 p)); limited = λ m b. absurd (omega arith); unlimited = λ m e. refl; short = λ a b. omega arith; single = λ e. absurd (omega arith) } }, tt),
+                    record { known = (tt, (λ n. refl, λ b. refl, (tt, tt))); fits = λ v. record { table = refl; row = λ m b. refl; follows = λ h p. rw (true-and (within 8 8 p)); limited = λ m b. sym (no-limit _); unlimited = λ m e. absurd (omega arith); short = λ a b. omega arith; single = λ e. absurd (omega arith) } },
+                    (record { known = (tt, tt); fits = λ v. record { table = refl; row = λ m b. absurd (omega arith); follows = λ h p. rw (true-and (within 1 9 p)); limited = λ m b. absurd (omega arith); unlimited = λ m e. refl; short = λ a b. omega arith; single = λ e. absurd (omega arith) } }, tt),
                   ),
                 ),
               ),
@@ -154,7 +161,7 @@ line-fits = (
 )
 
 -- An op's form, at any number from 11 on.
-module _ (f n : ℕ) (e : f ≡ 11 + n) (o : Op) (c : o .code ≡ n) where
+module _ (f n : ℕ) (e : f ≡ 11 + n) (low : n < 75) (o : Op) (c : o .code ≡ n) (long : length (o .operands) ≡ length (maxima-of n)) where
   op-kind : form-kind f ≡ 9
   unfolding form-kind
   op-kind = List·getD-eq-default kinds 9 {n = f} (omega arith)
@@ -162,15 +169,24 @@ module _ (f n : ℕ) (e : f ≡ 11 + n) (o : Op) (c : o .code ≡ n) where
   not-form : (k : ℕ) → k < 11 → eqb f k ≡ false
   not-form k h = ne-eqb f k (λ x. absurd (omega arith))
 
+  -- the kind that it names, by the maxima of its row
+  named : (float : ℕ) → has-kind float (named-kind (instr o)) ≡ has-kinds float (maxima-of (o .code)) (o .operands)
+  unfolding maxima-of
+  named float =
+      let q = row-of n low in
+      let m : maxima-of (o .code) ≡ q .this .maxima = ap maxima-of c ∙ q .maxima in
+      kinds-by-maxima float o (q .this) (ap (getElem? ops) c ∙ q .here) (omega (arith, long, ap length (q .maxima)))
+      ∙ ap (λ (ms : List ℕ). has-kinds float ms (o .operands)) (sym m)
+
   pub op-fits : Fits (op-line o) f (o .operands)
-  unfolding kind words row-words head-word tail-words op-words follow may-stand place-after unequal limits has-room counts cap own-limit choose
+  unfolding kind words row-words head-word tail-words op-words follow may-stand place-after may-say limits has-room counts cap own-limit choose
   op-fits =
       let d : f - 11 ≡ o .code = omega arith in
       record {
         table = sym op-kind;
         row =
             λ m b. rw (tail-words, le-leb 11 f (omega arith), not-form 8 (omega arith), d, append-nil (o .operands));
-        follows = λ p. rw (op-kind, unequal, not-form 0 (omega arith), true-and (within 8 9 p));
+        follows = λ h p. rw (op-kind, may-say, not-form 0 (omega arith), le-leb 11 f (omega arith), d, named (h .float));
         limited = λ m b. rw (op-kind, own-limit, not-form 7 (omega arith), not-form 8 (omega arith)) (sym (no-limit _));
         unlimited = λ m x. absurd (omega arith);
         short = λ a b. absurd (omega arith);

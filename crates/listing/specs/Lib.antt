@@ -1,5 +1,7 @@
 pub mod Scan
 pub mod Agree
+pub mod Kinds
+pub mod Fitting
 pub mod Forms
 pub mod Num
 pub mod Shape
@@ -9,5 +11,4 @@ pub mod OpLines
 pub mod OpRead
 pub mod Step
 pub mod Reads
-pub mod Fitting
 pub mod Answer

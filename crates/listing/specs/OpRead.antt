@@ -26,6 +26,7 @@ use Rattle.bytecode.specs.Names.{names, name-bytes, lookup-from, lookup}
 use Rattle.listing.specs.Scan.{Words, joined, admitted, max-code}
 use Rattle.listing.specs.Agree.{known-max, known-all, max-number}
 use Rattle.listing.specs.Forms.{op-fits}
+use Rattle.listing.specs.Fitting.{numbers-fit, within-long}
 use Rattle.listing.specs.Rows.{Stored, put-kept, Rowed, row-bad}
 use Rattle.listing.specs.Find.{whole-line, Entered, entered-none, entered-one}
 use Rattle.listing.specs.OpLines.{name-ends, name-of, name-stop, name-more, closing, after-name, line-of-row, by-name, no-ops, both-whole}
@@ -123,7 +124,7 @@ unfolding joined _and-then_
 joined-both a b none = refl
 joined-both a b (some q) = rw append-assoc
 
-maxima-short : (r : ℕ) → r < 75 → length (maxima-of r) ≤ 3
+pub maxima-short : (r : ℕ) → r < 75 → length (maxima-of r) ≤ 3
 unfolding maxima-of
 maxima-short r low = let q = row-of r low in omega (arith, ap length (q .maxima), q .short)
 
@@ -288,7 +289,7 @@ module _ (s : Bytes) (e : strip (bytes "(op ") s ≡ some (drop 4 s)) (end : ℕ
               let g = w .good o in
               let o : Op = record { code = k; operands = g .0 } in
               entered-one (whole-line (op-forms 0 ops) s) y (op-line o) (g .0) (omega arith) (named ∙ (rw (g .1, closing, d)))
-              (op-fits (y .form) k a o refl)
+              (op-fits (y .form) k a low o refl (within-long (maxima-of k) (g .0) (numbers-fit (maxima-of k) (drop end s) _ (g .1))))
               (rw (v, c) (g .2))
 
 -- ── Any line ──────────────────────────────────────────────────────────────────────────────

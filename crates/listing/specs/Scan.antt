@@ -1,6 +1,6 @@
 -- Line forms as bytes, and what reading by them gives: the values of a line as words.
--- A byte below 128 stands for itself. 128, 129 and 130 are a number of 8, 16 and 32 bits; 131 one of W and F, 132 one of A, 133 one of const's K,
--- 134 a K of 0 to 7, 135 a KIND of 0 to 3; 140 is a shape, 141 any number of shapes.
+-- A byte below 128 stands for itself. 128, 129 and 130 are a number of 8, 16 and 32 bits; 131 one of W, 132 one of A, 133 one of const's K,
+-- 134 a K of 0 to 7, 135 a KIND of 0 to 3, 136 one of F; 140 is a shape, 141 any number of shapes.
 use mathlib.Core.Bool.{Bool, true, false, _&&_, _||_}
 use mathlib.Core.Option.{Option, none, some}
 use mathlib.Core.List.{List, [], _∷_, _++_, map}
@@ -19,7 +19,7 @@ unfoldable pub max-code : ℕ → ℕ
 max-code m = choose (eqb m 255) 128 (choose (eqb m 65535) 129 (choose (eqb m 4294967295) 130 (choose (eqb m 7) 134 135)))
 
 unfoldable pub among-code : List ℕ → ℕ
-among-code ns = choose (eqb (length ns) 8) 133 (choose (is-member 8 ns) 131 132)
+among-code ns = choose (eqb (length ns) 8) 133 (choose (is-member 0 ns) 136 (choose (is-member 8 ns) 131 132))
 
 unfoldable pub codes : List Item → List ℕ
 codes [] = []
@@ -42,7 +42,11 @@ admitted c n =
                 elim (eqb c 133) [
                   | true ↦ is-member n (0 ∷ 1 ∷ 2 ∷ 3 ∷ 4 ∷ 5 ∷ 6 ∷ 255 ∷ [])
                   | false ↦
-                      leb n (choose (eqb c 128) 255 (choose (eqb c 129) 65535 (choose (eqb c 130) 4294967295 (choose (eqb c 134) 7 3))))
+                      elim (eqb c 136) [
+                        | true ↦ is-member n (0 ∷ 1 ∷ 2 ∷ 4 ∷ 8 ∷ [])
+                        | false ↦
+                            leb n (choose (eqb c 128) 255 (choose (eqb c 129) 65535 (choose (eqb c 130) 4294967295 (choose (eqb c 134) 7 3))))
+                      ]
                 ]
           ]
     ]

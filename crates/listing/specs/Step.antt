@@ -18,11 +18,16 @@ use Rattle.definition.specs.Module.{Module, Code, all-consts, all-ops}
 use Rattle.definition.specs.Read.{Reader, Line, first-line, slot-line, shared-line, private-line, enum-line, native-line, sig-line, chunk-line}
 use Rattle.definition.specs.Read.{const-line, op-line, close-line, read-line, follow, limits, limit, add, next-line, or-line, within, to-last, add-const, add-op}
 use Rattle.bytecode.specs.Tables.{tables, cap, size, padded, cells, cells-eq, stride, stride-small, Appended, table, eq-or}
-use Rattle.bytecode.specs.Held.{Held, lists, Sound, Stands, kind, words, more, more-is, held-more, held-count, length-map, chunk-rows, header-rows}
+use Rattle.definition.specs.Shapes.{is-lacking}
+use Rattle.theorems.specs.KindOf.{has-kinds}
+use Rattle.bytecode.specs.Lists.{limited}
+use Rattle.bytecode.specs.Meaning.{maxima-of, headerOf, cell}
+use Rattle.bytecode.specs.Held.{Held, lists, Sound, Stands, kind, words, more, more-is, held-more, held-count, length-map, chunk-rows, header-rows, header-words, cell-is}
 use Rattle.bytecode.specs.Held.{slot-words, shared-words, private-words, one-word, native-words, sig-words, op-words}
 use lib.Seq.{getD-set-same, getD-set-other}
-use Rattle.listing.specs.Forms.{Fits, form-kind, row-words, head-word, tail-words, may-stand, place-after, own-limit, unequal, counts, kinds, lows, highs, nexts}
+use Rattle.listing.specs.Forms.{Fits, form-kind, row-words, head-word, tail-words, may-stand, may-say, place-after, own-limit, counts, kinds, lows, highs, nexts}
 use Rattle.bytecode.specs.Tables.{all-below, at-each}
+use Rattle.listing.specs.Kinds.{named-same, lacking-limited}
 use Rattle.listing.specs.Rows.{Stored}
 use Rattle.listing.specs.Find.{Entered}
 use Rattle.listing.specs.declared.Entry.{Entry}
@@ -51,14 +56,14 @@ module _ (n : ℕ) (r : Reader) (s : Bytes) where
   not-read e = rw e
 
   module _ (l : Line) (e : read-line s ≡ some l) (f : ℕ) (vs : List ℕ) (fit : Fits l f vs) where
-    pub out-of-place : may-stand (r .place) f vs ≡ false → next-line n r s ≡ refused (1 ∷ 0 ∷ n ∷ [])
+    pub out-of-place : may-stand (r .so-far .header .float) (r .place) f vs ≡ false → next-line n r s ≡ refused (1 ∷ 0 ∷ n ∷ [])
     unfolding next-line or-line _>>=_ provided
-    out-of-place m = rw (e, fit .follows (r .place), m)
+    out-of-place m = rw (e, fit .follows (r .so-far .header) (r .place), m)
 
-    module _ (m : may-stand (r .place) f vs ≡ true) where
+    module _ (m : may-stand (r .so-far .header .float) (r .place) f vs ≡ true) where
       after-place : next-line n r s ≡ pass (limits (r .so-far) l) (record { place = place-after (form-kind f) (r .place); so-far = add (r .so-far) l })
       unfolding next-line or-line _>>=_ provided
-      after-place = rw (e, fit .follows (r .place), m)
+      after-place = rw (e, fit .follows (r .so-far .header) (r .place), m)
 
       pub table-full : form-kind f < 10 → cap (form-kind f) ≤ getD (counts (r .so-far)) (form-kind f) 0 → next-line n r s ≡ refused (2 ∷ 0 ∷ 0 ∷ 2 ∷ [])
       unfolding pass first unless
@@ -126,9 +131,9 @@ bounds : (a b p : ℕ) → within a b p ≡ true → (a ≤ p) × (p ≤ b)
 unfolding within
 bounds a b p e = (leb-true a p (and-left (leb a p) (leb p b) e), leb-true p b (and-right (leb a p) (leb p b) e))
 
-pub standing : (p f k : ℕ) (vs : List ℕ) → k ≡ form-kind f → may-stand p f vs ≡ true → (getD lows k 0 ≤ p) × (p ≤ getD highs k 0)
+pub standing : (float p f k : ℕ) (vs : List ℕ) → k ≡ form-kind f → may-stand float p f vs ≡ true → (getD lows k 0 ≤ p) × (p ≤ getD highs k 0)
 unfolding may-stand
-standing p f k vs e m =
+standing float p f k vs e m =
     subst (λ (x : ℕ). (getD lows x 0 ≤ p) × (p ≤ getD highs x 0)) (sym e)
     (bounds (getD lows (form-kind f) 0) (getD highs (form-kind f) 0) p (and-left (within (getD lows (form-kind f) 0) (getD highs (form-kind f) 0) p) _ m))
 
@@ -248,22 +253,29 @@ module _ (e : Entry) (vs : List ℕ) (st : Stored (e .vals) (e .count) vs) where
   unfolding own-limit limit-of
   limit-none a b = rw (own-limit, ne-eqb (e .form) 7 a, ne-eqb (e .form) 8 b)
 
-  -- I and H
-  pub stands-first : (p : ℕ) → e .form ≡ 0 → within (getD lows (form-kind (e .form)) 0) (getD highs (form-kind (e .form)) 0) p ≡ true
-      → not (eqb (getD (e .vals) 6 0) (getD (e .vals) 7 0)) ≡ may-stand p (e .form) vs
-  unfolding may-stand unequal
-  stands-first p f w =
-      rw (w, unequal, eq-eqb (e .form) 0 f)
-      (ap (λ (x : ℕ). not (eqb x (getD (e .vals) 7 0))) (st .here 5 (omega arith)) ∙ ap (λ (x : ℕ). not (eqb (getD vs 5 0) x)) (st .here 6 (omega arith)))
+  -- ── Whether the line may stand ────────────────────────────────────────────────────────────
 
-  pub stands-other : (p : ℕ) → (e .form ≡ 0 → ⊥) → within (getD lows (form-kind (e .form)) 0) (getD highs (form-kind (e .form)) 0) p ≡ true
-      → true ≡ may-stand p (e .form) vs
-  unfolding may-stand unequal
-  stands-other p f w = rw (w, unequal, ne-eqb (e .form) 0 f)
+  module _ (float p : ℕ) where
+    pub stands-not : within (getD lows (form-kind (e .form)) 0) (getD highs (form-kind (e .form)) 0) p ≡ false → false ≡ may-stand float p (e .form) vs
+    unfolding may-stand
+    stands-not w = rw w
 
-  pub stands-not : (p : ℕ) → within (getD lows (form-kind (e .form)) 0) (getD highs (form-kind (e .form)) 0) p ≡ false → false ≡ may-stand p (e .form) vs
-  unfolding may-stand
-  stands-not p w = rw w
+    module _ (w : within (getD lows (form-kind (e .form)) 0) (getD highs (form-kind (e .form)) 0) p ≡ true) where
+      -- I and H
+      pub stands-first : e .form ≡ 0 → not (eqb (getD (e .vals) 6 0) (getD (e .vals) 7 0)) ≡ may-stand float p (e .form) vs
+      unfolding may-stand may-say
+      stands-first f =
+          rw (w, may-say, eq-eqb (e .form) 0 f)
+          (ap (λ (x : ℕ). not (eqb x (getD (e .vals) 7 0))) (st .here 5 (omega arith)) ∙ ap (λ (x : ℕ). not (eqb (getD vs 5 0) x)) (st .here 6 (omega arith)))
+
+      -- the kinds that an op names
+      pub stands-op : 11 ≤ e .form → has-kinds float (maxima-of (e .form - 11)) vs ≡ may-stand float p (e .form) vs
+      unfolding may-stand may-say
+      stands-op f = rw (w, may-say, ne-eqb (e .form) 0 (λ z. absurd (omega arith)), le-leb 11 (e .form) f)
+
+      pub stands-other : (e .form ≡ 0 → ⊥) → e .form < 11 → true ≡ may-stand float p (e .form) vs
+      unfolding may-stand may-say
+      stands-other f h = rw (w, may-say, ne-eqb (e .form) 0 f, lt-leb 11 (e .form) h)
 
   -- ── The words of a row ────────────────────────────────────────────────────────────────────
 
@@ -347,6 +359,57 @@ module _ (e : Entry) (vs : List ℕ) (st : Stored (e .vals) (e .count) vs) where
               ∙ getD-set-other headed 2 (suc (suc (suc (suc j)))) a 0 (λ x. absurd (omega arith))
               ∙ headed-other (suc (suc (suc j))) (omega arith) ∙ past-one (suc (suc j))
 
+-- ── The header already read ───────────────────────────────────────────────────────────────
+
+-- only an op asks which kinds are lacking, and no op stands before the header
+say-low : (a b f : ℕ) (vs : List ℕ) → f < 11 → may-say a f vs ≡ may-say b f vs
+unfolding may-say
+say-low a b f vs h = go (eqb f 0) (leb 11 f) _ _ _ (lt-leb 11 f h)
+  where
+    go : (x y p q r : Bool) → y ≡ false
+        → _≡_ {A = Bool} (elim x [ true ↦ p | false ↦ elim y [ true ↦ q | false ↦ true ] ]) (elim x [ true ↦ p | false ↦ elim y [ true ↦ r | false ↦ true ] ])
+    go true y p q r e = refl
+    go false true p q r e = absurd (let z : _≡_ {A = ℕ} 0 1 = cc in omega arith)
+    go false false p q r e = refl
+
+say-op : (a b f : ℕ) (vs : List ℕ) → 11 ≤ f → ((k : ℕ) → is-lacking a k ≡ is-lacking b k) → may-say a f vs ≡ may-say b f vs
+unfolding may-say
+say-op a b f vs h s = rw (may-say, ne-eqb f 0 (λ z. absurd (omega arith)), le-leb 11 f h, named-same a b (maxima-of (f - 11)) vs s)
+
+stand-same : (a b p f : ℕ) (vs : List ℕ) → (1 ≤ p → (k : ℕ) → is-lacking a k ≡ is-lacking b k) → may-stand a p f vs ≡ may-stand b p f vs
+unfolding may-stand form-kind within
+stand-same a b zero f vs h = elim (decLt f 11) [
+  | yes l ↦ ap (λ (x : Bool). within (getD lows (form-kind f) 0) (getD highs (form-kind f) 0) 0 && x) (say-low a b f vs l)
+  | no n ↦ (rw (List·getD-eq-default kinds 9 {n = f} (omega arith)))
+]
+stand-same a b (suc p) f vs h =
+    ap (λ (x : Bool). within (getD lows (form-kind f) 0) (getD highs (form-kind f) 0) (suc p) && x)
+    (elim (decLt f 11) [ yes l ↦ say-low a b f vs l | no n ↦ say-op a b f vs (omega arith) (h (omega arith)) ])
+
+module _ (t : List ℕ) (q : Reader) (held : Held t (lists q)) where
+  header-first : 1 ≤ q .place → getD (lists q) 0 [] ≡ header-words (q .so-far .header) ∷ []
+  unfolding lists header-rows
+  header-first l = rw (le-leb 1 (q .place) l)
+
+  float-held : 1 ≤ q .place → cell t 0 0 2 ≡ q .so-far .header .float
+  unfolding stride header-words
+  float-held l =
+      cell-is t (lists q) 0 0 2 held (omega arith) (omega (arith, ap length (header-first l))) (omega arith)
+      ∙ ap (λ (rs : List (List ℕ)). getD (getD rs 0 []) 2 0) (header-first l)
+
+  -- The tables hold the header once it is read, so a line may stand by their bytes of a float exactly where it may by the reader's.
+  stand-held : (f : ℕ) (vs : List ℕ) → may-stand (headerOf t .float) (q .place) f vs ≡ may-stand (q .so-far .header .float) (q .place) f vs
+  unfolding headerOf
+  stand-held f vs =
+      stand-same _ _ (q .place) f vs
+      (λ l k. lacking-limited 8 (cell t 0 0 2) k (omega arith) ∙ ap (λ (x : ℕ). is-lacking x k) (float-held l))
+
+  -- the same from what was found by the tables and by the place beside them
+  pub stood : (place float f : ℕ) (vs : List ℕ) (r b : Bool) → q .place ≡ place → float ≡ headerOf t .float → r ≡ may-stand float place f vs → r ≡ b
+      → may-stand (q .so-far .header .float) (q .place) f vs ≡ b
+  stood place float f vs r b p e s d =
+      sym (stand-held f vs) ∙ ap (λ (x : ℕ). may-stand x (q .place) f vs) (sym e) ∙ ap (λ (x : ℕ). may-stand float x f vs) p ∙ sym s ∙ d
+
 -- ── One step ──────────────────────────────────────────────────────────────────────────────
 
 kind-form : (l : Line) → kind l ≡ 10 → (m : Module) → add m l ≡ m
@@ -388,16 +451,16 @@ module _ (n : ℕ) (q : Reader) (s : Bytes) (e : Entry) (en : Entered (read-line
     pub kept : Stored (e .vals) (e .count) vals-of
     kept = en .one low .4
 
-    pub step-misplaced : may-stand (q .place) (e .form) vals-of ≡ false → (u : List ℕ) → StepIs n (next-line n q s) Wrong u
+    pub step-misplaced : may-stand (q .so-far .header .float) (q .place) (e .form) vals-of ≡ false → (u : List ℕ) → StepIs n (next-line n q s) Wrong u
     unfolding StepIs
     step-misplaced m u = out-of-place n q s line reads (e .form) vals-of fitting m
 
-    module _ (m : may-stand (q .place) (e .form) vals-of ≡ true) (t : List ℕ) (held : Held t (lists q)) (sound : Sound q) where
+    module _ (m : may-stand (q .so-far .header .float) (q .place) (e .form) vals-of ≡ true) (t : List ℕ) (held : Held t (lists q)) (sound : Sound q) where
       where-line : (getD lows (form-kind (e .form)) 0 ≤ q .place) × (q .place ≤ getD highs (form-kind (e .form)) 0)
-      where-line = standing (q .place) (e .form) (form-kind (e .form)) vals-of refl m
+      where-line = standing (q .so-far .header .float) (q .place) (e .form) (form-kind (e .form)) vals-of refl m
 
       line-stands : Stands (q .place) line
-      line-stands = stands (q .place) line (standing (q .place) (e .form) (kind line) vals-of (fitting .table) m)
+      line-stands = stands (q .place) line (standing (q .so-far .header .float) (q .place) (e .form) (kind line) vals-of (fitting .table) m)
 
       pub step-close : form-kind (e .form) ≡ 10 → (p : ℕ) → p ≡ place-after (form-kind (e .form)) (q .place) → StepIs n (next-line n q s) (On p) t
       unfolding StepIs

@@ -2,6 +2,7 @@
 use answer::limit;
 use bytecode::ops;
 use bytecode::ops::Found;
+use value_layout::scalar;
 ghost use mathlib.Core.Path.{_≡_};
 ghost use mathlib.Core.List.{List, _∷_, []};
 ghost use mathlib.Core.Option.{none, some};
@@ -10,12 +11,13 @@ ghost use Prim.Native.Nat.{ℕ, _+_, _*_, _-_, _<_, _≤_};
 ghost use Rattle.definition.specs.Format.{Bytes, bytes, digits-from, is-digit, begins-digit, begins-number, number-at, numbers-at, strip, begins-with};
 ghost use Rattle.definition.specs.Shapes.{same-places};
 ghost use Rattle.definition.specs.Ops.{ops as op-rows};
+ghost use Rattle.theorems.specs.KindOf.{has-kinds};
 ghost use Rattle.bytecode.specs.Meaning.{maxima-of};
 ghost use Rattle.bytecode.specs.Names.{name-table};
 ghost use Rattle.listing.specs.Scan.{admitted, formats, shape-word, max-code};
 ghost use Rattle.definition.specs.Basics.{is-member};
 ghost use mathlib.Core.Bool.{true, false, _&&_};
-ghost use lib.Dec.{leb};
+ghost use lib.Dec.{leb, eqb};
 ghost use Rattle.definition.specs.Read.{line-forms, op-forms, read-line};
 ghost use Rattle.definition.specs.Read.{Line, Reader, at-start, next-line, within};
 ghost use Rattle.listing.specs.Reads.{Read-is, Line-end, read-all};
@@ -37,7 +39,7 @@ mod place;
 mod sort;
 
 // The forms of all lines but ops as bytes, 16 to each, filled up with LF; specs/Scan.antt says what a byte stands for.
-const FORMATS: [u8; 176] = *b"(module\x83\x83\x84\x82\x82\x81\x81\n\n\
+const FORMATS: [u8; 176] = *b"(module\x83\x88\x84\x82\x82\x81\x81\n\n\
     (slot shared)\n\n\n\
     (slot private)\n\n\
     (shared\x82\x80\x81)\n\n\n\n\n\
@@ -153,6 +155,7 @@ fn admits(c: u8, n: u64) -> bool
 {
     match c {
         sort::WIDTH => is_width(n),
+        sort::FLOAT_WIDTH => is_float_width(n),
         sort::ADDRESS => is_address(n),
         sort::CONSTANT => is_constant(n),
         sort::BITS_8 => n <= 255,
@@ -173,6 +176,16 @@ fn is_width(n: u64) -> bool
         8 => true,
         _ => false,
     }
+}
+
+// A controller without floats has none of 0 bytes.
+fn is_float_width(n: u64) -> bool
+    ensures { λ r. ⌜ r ≡ is-member n (0 ∷ 1 ∷ 2 ∷ 4 ∷ 8 ∷ []) ⌝ }
+{
+    if n == 0 {
+        return true;
+    }
+    is_width(n)
 }
 
 fn is_address(n: u64) -> bool
@@ -701,9 +714,43 @@ fn stands(place: u64, kind: usize) -> bool
     place <= high_of(kind)
 }
 
-// Whether a line may follow at a place. I and H of the first line are unequal.
-fn may_stand(place: u64, e: Entry) -> bool
-    ensures { λ r. ⌜ ((vs : List ℕ) → Stored (e .vals) (e .count) vs → r ≡ may-stand place (e .form) vs) ⌝ }
+// The largest K: an operand that may be so much is a kind of scalar.
+const MOST_KIND: u64 = 7;
+
+// Whether an operand is the kind of floats: a kind by the largest number that it may be, and that one by its value.
+fn names_float(most: u64, value: u64) -> bool
+    ensures { λ r. ⌜ r ≡ (eqb most 7 && eqb value 5) ⌝ }
+{
+    if most != MOST_KIND {
+        return false;
+    }
+    value == wide(scalar::FLOAT)
+}
+
+// Whether no operand of a row is a kind that a module lacks, from the bytes of its float. One with floats lacks none.
+fn has_kinds(names: &[u64; 781], float: u8, row: usize, e: Entry) -> bool
+    requires { ⌜ (row < 75) × (now names ≡ name-table) ⌝ }
+    ensures { λ r. ⌜ ((vs : List ℕ) → Stored (e .vals) (e .count) vs → r ≡ has-kinds float (maxima-of row) vs) ⌝ }
+{
+    if float != 0 {
+        return true;
+    }
+    let vals = e.vals;
+    let mut j = 0;
+    while j < 3 {
+        let most = ops::maximum(names, row, j);
+        if names_float(most, vals[j + 1]) {
+            return false;
+        }
+        j += 1;
+    }
+    true
+}
+
+// Whether a line may follow at a place. I and H of the first line are unequal, and an op names no kind that the module lacks.
+fn may_stand(names: &[u64; 781], float: u8, place: u64, e: Entry) -> bool
+    requires { ⌜ (e .form < 86) × (now names ≡ name-table) ⌝ }
+    ensures { λ r. ⌜ ((vs : List ℕ) → Stored (e .vals) (e .count) vs → r ≡ may-stand float place (e .form) vs) ⌝ }
 {
     let form = e.form;
     let vals = e.vals;
@@ -711,6 +758,9 @@ fn may_stand(place: u64, e: Entry) -> bool
     if stands(place, kind) {
         if form == form::MODULE {
             return vals[6] != vals[7];
+        }
+        if form::FIRST_OP <= form {
+            return has_kinds(names, float, form - form::FIRST_OP, e);
         }
         return true;
     }
@@ -787,7 +837,7 @@ fn one_line(names: &[u64; 781], t: &mut [u64], place: u64, s: &[u8]) -> Step
     if form::NONE <= e.form {
         return Step::Wrong;
     }
-    if !may_stand(place, e) {
+    if !may_stand(names, bytecode::float_of(t), place, e) {
         return Step::Wrong;
     }
     let k = kind_of(e.form);

@@ -15,6 +15,8 @@ pub const SCALAR: u8 = 134;
 
 pub const COMPOSITE: u8 = 135;
 
+pub const FLOAT_WIDTH: u8 = 136;
+
 pub const SHAPE: u8 = 140;
 
 pub const SHAPES: u8 = 141;
