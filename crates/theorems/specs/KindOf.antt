@@ -1,18 +1,73 @@
--- 02, S-1: "an op naming it is a bad line", said by the maxima of a row: K is the operand whose largest number is 7. A reader that has the maxima at
--- hand tests the operands by them.
+-- 02, S-1: kinds that a module lacks.
 use mathlib.Core.Path.{_≡_, refl, sym, ap, _∙_, subst}
 use mathlib.Core.Bool.{Bool, true, false, not, _&&_}
 use mathlib.Core.Option.{Option, none, some}
-use mathlib.Core.List.{List, [], _∷_}
+use mathlib.Core.List.{List, [], _∷_, map}
+use mathlib.Core.Logic.{_≢_}
 use Prim.Native.Nat.{ℕ, zero, suc}
 use native.Mathlib.Omega.{arith}
 use lib.Dec.{eqb}
+use borrow.Author.Tests.{ne-eqb}
 use lib.ListN.{length, getElem?}
-use Rattle.definition.specs.Shapes.{is-lacking}
+use Rattle.definition.specs.Basics.{choose}
+use Rattle.definition.specs.Shapes.{scalar-widths, is-lacking, Wire, top, scalarW, flatW, top-if, known-wire}
+use Rattle.definition.specs.Instructions.{Sig, Instr}
 use Rattle.definition.specs.Ops.{Makes, Row, row, ops, Op, make-at, instr-of, instr, named-kind, has-kind}
+use Rattle.definition.specs.Module.{Header, address-bytes, known-sig, known-const}
+use Rattle.definition.specs.Layout.{unless-lacking, scalar-bytes}
 use Rattle.theorems.specs.Cover.{no-some}
 
--- No K among the operands is of a kind that is lacking where a float has so many bytes.
+-- ── A module with floats ──────────────────────────────────────────────────────────────────
+
+-- Where a float has bytes no kind is lacking, and every shape and constant of the walk is that of the listing.
+pub record With-floats (float : ℕ) : Type 0 where
+  pub kinds : (k : ℕ) → is-lacking float k ≡ false
+  pub wires : (w : Wire) → known-wire float w ≡ w
+  pub sigs : (g : Sig) → known-sig float g ≡ g
+  pub consts : (k : ℕ) → known-const float k ≡ k
+  pub sizes : (h : Header) (k : ℕ) → h .float ≡ float → scalar-bytes h k ≡ getElem? (scalar-widths (h .word) float (address-bytes h)) k
+  pub ops : (i : Instr) → has-kind float (named-kind i) ≡ true
+
+module _ (float : ℕ) (n : float ≢ 0) where
+  no-kind : (k : ℕ) → is-lacking float k ≡ false
+  unfolding is-lacking
+  no-kind k = rw (ne-eqb float 0 n)
+
+  same-wire : (w : Wire) → known-wire float w ≡ w
+  unfolding known-wire top-if
+  same-wire top = refl
+  same-wire (scalarW k) = rw (no-kind k)
+  same-wire (flatW k s) = refl
+
+  same-wires : (ws : List Wire) → map (known-wire float) ws ≡ ws
+  same-wires [] = refl
+  same-wires (w ∷ ws) = rw (same-wire w, same-wires ws)
+
+  same-sig : (g : Sig) → known-sig float g ≡ g
+  unfolding known-sig
+  same-sig g = rw (same-wire (g .ret), same-wire (g .resume), same-wires (g .params))
+
+  same-const : (k : ℕ) → known-const float k ≡ k
+  unfolding known-const choose
+  same-const k = rw (no-kind k)
+
+  same-size : (h : Header) (k : ℕ) → h .float ≡ float → scalar-bytes h k ≡ getElem? (scalar-widths (h .word) float (address-bytes h)) k
+  unfolding scalar-bytes unless-lacking
+  same-size h k e = rw (e, no-kind k)
+
+  no-op : (o : Option ℕ) → has-kind float o ≡ true
+  unfolding has-kind
+  no-op none = refl
+  no-op (some k) = rw (no-kind k)
+
+  pub with-floats : With-floats float
+  with-floats =
+      record { kinds = no-kind; wires = same-wire; sigs = same-sig; consts = same-const; sizes = same-size; ops = λ i. no-op (named-kind i) }
+
+-- ── Ops that name a kind ──────────────────────────────────────────────────────────────────
+
+-- "An op naming it is a bad line", by the maxima of a row: K is the operand whose largest number is 7, so a reader that has the maxima at hand tests
+-- the operands by them. No K among the operands is of a kind that is lacking where a float has so many bytes.
 unfoldable pub has-kinds : ℕ → List ℕ → List ℕ → Bool
 has-kinds float [] ns = true
 has-kinds float (m ∷ ms) [] = true
