@@ -38,7 +38,7 @@ extern "C" {
 #endif
 
 /* The version of this header and of the library, as in the file VERSION. */
-#define STAGECHECK_VERSION "1.0.0"
+#define STAGECHECK_VERSION "2.0.0"
 /* The words of an answer. */
 #define STAGECHECK_ANSWER_WORDS 8
 /* The words of the tables, 174 KiB. */
