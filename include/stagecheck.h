@@ -8,7 +8,13 @@
  * Two functions check a listing; they differ in where the tables are. Four turn a listing or an answer into words. All
  * of them allocate nothing, read and write nothing but what is lent, keep nothing between calls, and end for every
  * input. Calls from several threads are free of each other where what they lend is. What the answer, the sheets and
- * the text are for each listing is proved (docs/PROMISES.md); what follows here in words is document 01's.
+ * the text are for each listing is proved (docs/PROMISES.md); what follows here in words is that of documents 01
+ * and 02.
+ *
+ * Floats: a listing whose first line says F 0 is one for a controller without floats. Kind 5, the float, is then a kind
+ * that is not known: an op that names it is refused with 1, a shared entry of it with 16, and a shape or a constant of
+ * it is unknown, so that reads of it are blind (docs/LISTING.md, section 2). Before version 2.0.0 every listing with
+ * F 0 was refused with 1.
  *
  * Time: no limit of time is built in. Loops in loops multiply the passes of the walk, and a listing that keeps all
  * limits can keep a call busy practically for ever (docs/BENCH.md). A controller needs a limit of its own: a watchdog,
@@ -79,7 +85,8 @@ extern "C" {
 enum stagecheck_number {
     /* Accepted. Word 1: how many chunks. Word 2: how many instructions, of all chunks. */
     STAGECHECK_ACCEPTED = 0,
-    /* A line cannot follow, or the end is missing. lines: how many lines stand before it. */
+    /* A line cannot follow, or the end is missing. lines: how many lines stand before it. An op that names kind 5 where
+     * F is 0 cannot follow. */
     STAGECHECK_CANNOT_FOLLOW = 1,
     /* A limit is passed. ip: the instruction in its chunk, 0 for limits 1 to 3. limit:
      *   1  the listing has more than 65,536 bytes
@@ -119,8 +126,8 @@ enum stagecheck_number {
     STAGECHECK_CALL_ARG_MISMATCH = 14,
     /* Elements of `element_size` bytes do not divide an array of `array_size`. */
     STAGECHECK_ARRAY_STRIDE_MISMATCH = 15,
-    /* A shared entry ends past the shared bytes, or its KIND, 8 to 127, is no scalar and no composite; then size is 0.
-     * slot: the entry; buffer: the shared bytes. */
+    /* A shared entry ends past the shared bytes, or its KIND is no scalar and no composite: 8 to 127, and 5 where F is
+     * 0; then size is 0. slot: the entry; buffer: the shared bytes. */
     STAGECHECK_SHARED_SLOT_OUT_OF_BOUNDS = 16,
     /* A new enum says `baked` bytes, which no enum line allows. */
     STAGECHECK_ENUM_BODY_SIZE_MISMATCH = 17,
