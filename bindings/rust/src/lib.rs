@@ -41,6 +41,26 @@
 //! );
 //! ```
 //!
+//! # Controllers without floats
+//!
+//! A listing whose first line says F 0 is one for a controller without floats. Kind 5, the float, is then a kind that
+//! is not known: an op that names it and a shared entry of it are refused, and a shape or a constant of it is unknown,
+//! so that reads of it are blind.
+//!
+//! ```
+//! use stagecheck::Refusal;
+//!
+//! let listing = b"(module 8 0 6 0 0 8 9
+//! (chunk 0
+//! (op GetData 0)
+//! (op GetField Flat 0 5)
+//! (op Return)
+//! )
+//! )
+//! ";
+//! assert_eq!(stagecheck::check(listing), Err(Refusal::CannotFollow { lines: 3 }));
+//! ```
+//!
 //! # Where the library is found
 //!
 //! In the folder that the environment variable `STAGECHECK_LIB_DIR` names when this package is built, as `PREFIX/lib`

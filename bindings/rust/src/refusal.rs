@@ -12,7 +12,8 @@ use std::fmt;
 #[non_exhaustive]
 #[allow(missing_docs)] // The fields are said in their variant's sentence.
 pub enum Refusal {
-    /// A line cannot follow those before it, or the end is missing; `lines` lines stand before it.
+    /// A line cannot follow those before it, or the end is missing; `lines` lines stand before it. An op that names
+    /// kind 5 where F is 0 cannot follow.
     CannotFollow { lines: u64 },
     /// A limit is passed. `chunk` and `ip` are 0 for the limits of reading.
     LimitPassed { chunk: u64, ip: u64, limit: Limit },
@@ -44,8 +45,8 @@ pub enum Refusal {
     CallArgMismatch { chunk: u64, ip: u64, callee: u64, arg: u64 },
     /// Elements of `element_size` bytes do not divide an array of `array_size`.
     ArrayStrideMismatch { chunk: u64, ip: u64, element_size: u64, array_size: u64 },
-    /// The shared entry `slot`, of `size` bytes from `offset` on, ends past the `buffer` shared bytes. `size` is 0
-    /// where its kind is no scalar and no composite.
+    /// The shared entry `slot`, of `size` bytes from `offset` on, ends past the `buffer` shared bytes; or its kind is
+    /// no scalar and no composite, as kind 5 where F is 0, and `size` is 0.
     SharedSlotOutOfBounds { slot: u64, offset: u64, size: u64, buffer: u64 },
     /// A new enum says `baked` bytes, which no enum line allows.
     EnumBodySizeMismatch { chunk: u64, ip: u64, baked: u64 },

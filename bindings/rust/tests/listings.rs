@@ -1,4 +1,5 @@
-//! The listings of examples/ and oracle/cases/, against the stored texts of the program; and a call in a small thread.
+//! The listings of examples/ and oracle/cases/, against the stored texts of the program; controllers without floats; and
+//! a call in a small thread.
 
 use stagecheck::{Checker, Refusal, check};
 use std::path::{Path, PathBuf};
@@ -58,6 +59,33 @@ fn a_refusal_is_an_error() {
     let refusal: Box<dyn std::error::Error> = check(b"").unwrap_err().into();
     assert_eq!(refusal.to_string(), "after 0 lines comes one that cannot follow, or the end is missing");
     assert_eq!(refusal.downcast_ref(), Some(&Refusal::CannotFollow { lines: 0 }));
+}
+
+/// The numbers of a refusal; none for an acceptance.
+fn numbers(listing: &str) -> Vec<u64> {
+    check(listing.as_bytes()).err().map_or(Vec::new(), |refusal| refusal.numbers())
+}
+
+/// What kind 5 gives where F is 0, and what the same listing gives where it is 8.
+#[test]
+fn without_floats_kind_5_is_not_known() {
+    let rows: [(&str, &[u64], &[u64]); 5] = [
+        ("6 0 0 8 9\n(chunk 0\n(op GetData 0)\n(op GetField Flat 0 5)\n)\n)\n", &[1, 0, 3], &[]),
+        ("6 100 0 8 9\n(slot shared)\n(shared 3 5 0)\n)\n", &[16, 0, 0, 3, 0, 100], &[]),
+        (
+            "6 0 0 8 9\n(native (scalar 5))\n(chunk 0\n(op CallExternalNative 0 0)\n(op GetField Flat 0 3)\n)\n)\n",
+            &[],
+            &[7, 0, 1],
+        ),
+        ("6 0 0 8 9\n(chunk 0\n(const 5)\n(op Const 0)\n(op NewComposite Flat 0 1 99)\n)\n)\n", &[], &[8, 0, 1, 99, 8]),
+        ("6 0 0 8 9\n(chunk 0\n(op PushImmediate 0)\n(op IntToFloat)\n)\n)\n", &[], &[]),
+    ];
+    for (rest, without, with) in rows {
+        assert_eq!(numbers(&format!("(module 8 0 {rest}")), without, "F is 0: {rest}");
+        assert_eq!(numbers(&format!("(module 8 8 {rest}")), with, "F is 8: {rest}");
+    }
+    assert_eq!(numbers("(module 8 0 6 0 0 8 9\n)\n"), []);
+    assert_eq!(numbers("(module 0 0 6 0 0 8 9\n)\n"), [1, 0, 0]);
 }
 
 /// The deepest nest of loops, in a thread of 1 MiB.
