@@ -13,8 +13,8 @@
  *
  * Floats: a listing whose first line says F 0 is one for a controller without floats. Kind 5, the float, is then a kind
  * that is not known: an op that names it is refused with 1, a shared entry of it with 16, and a shape or a constant of
- * it is unknown, so that reads of it are blind (docs/LISTING.md, section 2). Before version 2.0.0 every listing with
- * F 0 was refused with 1.
+ * it is unknown, so that reads of it are blind (docs/LISTING.md, section 2). Before version 2.0.0 such a first line was
+ * refused with 1.
  *
  * Time: no limit of time is built in. Loops in loops multiply the passes of the walk, and a listing that keeps all
  * limits can keep a call busy practically for ever (docs/BENCH.md). A controller needs a limit of its own: a watchdog,
