@@ -36,8 +36,8 @@ pub enum Refusal {
     BranchHeightMismatch { chunk: u64, ip: u64, then_height: u64, else_height: u64 },
     /// A loop's body begins at `entry_height` and ends at `exit_height`. `ip`: the Loop.
     LoopNotNeutral { chunk: u64, ip: u64, entry_height: u64, exit_height: u64 },
-    /// In a loop that was entered at height `floor`, an instruction that takes `required` operands finds `available`:
-    /// it would take some from below the floor.
+    /// In a loop that was entered at height `floor`, over 0, an instruction that needs `required` operands finds
+    /// `available` in all, those below the floor included: fewer than `floor` + `required`.
     LoopFloorBreach { chunk: u64, ip: u64, floor: u64, available: u64, required: u64 },
     /// A value of another shape is stored to the parameter `slot`.
     LocalTypeMismatch { chunk: u64, ip: u64, slot: u64 },
@@ -267,7 +267,7 @@ impl Refusal {
                 write!(out, "the loop's body begins with {entry_height} operands and ends with {exit_height}")
             }
             LoopFloorBreach { floor, available, required, .. } => {
-                write!(out, "it takes {required} of {available} operands, {floor} of which are from before the loop")
+                write!(out, "it needs {required} operands and finds {available}, {floor} of them from before the loop")
             }
             LocalTypeMismatch { slot, .. } => write!(out, "a value of another shape is stored to parameter {slot}"),
             CallArgMismatch { callee, arg, .. } => {
