@@ -2,6 +2,7 @@
 // length of the whole.
 ghost use Prim.Native.Nat.{_≤_};
 
+mod floats;
 mod lines;
 mod put;
 
@@ -65,8 +66,12 @@ const BLIND: usize = 27;
 
 const HEAD: usize = 28;
 
+const FLOAT_OP: usize = 29;
+
+const FLOAT_ENTRY: usize = 30;
+
 // Word 7 is what no answer has: the room of a table, or how many reads are blind.
-const CASES: [u8; 1586] = *b"\n\
+const CASES: [u8; 1718] = *b"\n\
     the listing ends after #2 line~2, before the `)` that closes the module\n\
     a byte of this line, shown as `?`, may not stand in a listing; a line ends with a line feed alone\n\
     the listing ends within this line, and each line has to end with a line feed\n\
@@ -94,7 +99,9 @@ const CASES: [u8; 1586] = *b"\n\
     chunk #1, instruction #2, both counted from 0\n\
     accepted: #1 chunk~1, #2 instruction~2\n\
     #7 blind read~7: the shape of what is read is not known there, so the check says nothing of it\n\
-    \x20  line  height  mark   listing\n";
+    \x20  line  height  mark   listing\n\
+    no op may name kind 5, the float, where the first line says F 0\n\
+    the KIND of this entry is 5, the float, and the first line says F 0\n";
 
 fn put_case(text: &mut [u8], at: usize, row: usize, words: &[u64; 8]) -> usize {
     let rows = CASES;
@@ -118,6 +125,9 @@ fn printable_row(listing: &[u8], from: usize, answer: &[u64; 8]) -> usize {
     }
     if answer[2] == 0 {
         return FOLLOW + 3;
+    }
+    if floats::is_op(listing, from) {
+        return FLOAT_OP;
     }
     FOLLOW + 4
 }
@@ -148,7 +158,10 @@ fn limit_row(listing: &[u8], place: Place, answer: &[u64; 8]) -> usize {
 }
 
 // Where a shared entry ends in time its kind is at fault.
-fn shared_row(answer: &[u64; 8]) -> usize {
+fn shared_row(listing: &[u8], place: Place, answer: &[u64; 8]) -> usize {
+    if floats::is_entry(listing, place.from) {
+        return FLOAT_ENTRY;
+    }
     if answer[4] == 0 {
         if answer[3] <= answer[5] {
             return NO_KIND;
@@ -161,7 +174,7 @@ fn case_row(listing: &[u8], place: Place, answer: &[u64; 8]) -> usize {
     match answer[0] {
         1 => follow_row(listing, place, answer),
         2 => limit_row(listing, place, answer),
-        16 => shared_row(answer),
+        16 => shared_row(listing, place, answer),
         18 => in_group(PRIVATE, answer[4], 4),
         19 => in_group(COUNTS, answer[4], 2),
         _ => WHOLE,
