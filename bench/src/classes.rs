@@ -37,7 +37,7 @@ pub fn classes() -> Vec<Class> {
 
 /// The first `count` listings of the seed that are wanted.
 fn generated(count: usize, size: Size, wanted: impl Fn(&[u8], &Answer) -> bool) -> Vec<Vec<u8>> {
-    let listings = (0..).map(|number| generator::listing(SEED, number, size));
+    let listings = (0..).map(|number| generator::listing_with_floats(SEED, number, size));
     listings.filter(|bytes| wanted(bytes, &answer::answer(bytes))).take(count).collect()
 }
 

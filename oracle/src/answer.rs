@@ -1,11 +1,11 @@
 //! The original's answer as a line of document 01, and the rule that leaves a listing out of a comparison.
 
-use crate::bytecode::{Module, TrapKind};
+use crate::bytecode::{Op, TrapKind};
 use crate::limits::Notes;
 use crate::listing::{self, Listing};
 use crate::refusal::Refusal;
-use crate::verify_typed::{TypedError, typed_check_module};
 use crate::{nesting, whole};
+use original_without_floats::refusal::Refusal as RefusalWithoutFloats;
 use std::fmt;
 
 /// What is compared.
@@ -20,6 +20,8 @@ pub enum Answer {
     BeyondLimit(u8),
     /// Left out: the trap codes are not the original's.
     BeyondCodes,
+    /// Left out: F is 0, and an op has a name that the original without floats lacks.
+    BeyondNames,
 }
 
 impl Answer {
@@ -29,7 +31,7 @@ impl Answer {
         match self {
             Answer::Accepted { chunks, instructions } => Some(vec![0, *chunks as u64, *instructions as u64]),
             Answer::Refused(refusal) => Some(refusal.words()),
-            Answer::BeyondLimit(_) | Answer::BeyondCodes => None,
+            Answer::BeyondLimit(_) | Answer::BeyondCodes | Answer::BeyondNames => None,
         }
     }
 }
@@ -41,6 +43,7 @@ impl fmt::Display for Answer {
             Answer::Refused(refusal) => write!(out, "{refusal}"),
             Answer::BeyondLimit(limit) => write!(out, "beyond {limit}"),
             Answer::BeyondCodes => write!(out, "beyond codes"),
+            Answer::BeyondNames => write!(out, "beyond names"),
         }
     }
 }
@@ -70,74 +73,28 @@ fn left_out(listing: &Listing) -> Option<Answer> {
     if (listing.index_code, listing.host_code) != codes {
         return Some(Answer::BeyondCodes);
     }
+    if listing.float_bytes == 0 && listing.ops().any(|op| matches!(op, Op::IntToFloat | Op::FloatToInt)) {
+        return Some(Answer::BeyondNames);
+    }
     let limit = whole::check_nested(listing, &mut Notes::default()).err()?.passed_limit()?;
     Some(Answer::BeyondLimit(limit))
 }
 
-/// Runs the original. It does not tell the chunk, so a refusal is looked for in the module's first chunks: the
-/// fewest that are refused end with the chunk at fault. With no chunk at all the data layout is at fault.
+/// Runs the original: where F is 0, the one without floats. That build has types of its own, so it reads the listing again.
 fn original(listing: &Listing) -> Result<(), Refusal> {
-    let check = |module: &Module| typed_check_module(module, listing.word_bytes, listing.float_bytes);
-    let Err(error) = check(&listing.module) else {
-        return Ok(());
-    };
-    let mut module = listing.module.clone();
-    while !module.chunks.is_empty() {
-        let last = module.chunks.pop();
-        if check(&module).is_ok() {
-            module.chunks.extend(last);
-            break;
-        }
+    if listing.float_bytes > 0 {
+        return original::check(listing);
     }
-    Err(refusal(&error, module.chunks.len().saturating_sub(1)))
+    let read = original_without_floats::listing::read(listing::write(listing).as_bytes());
+    read.and_then(|listing| original_without_floats::check(&listing)).map_err(with_own_type)
 }
 
-/// Number and fields of an error, in the order in which the original declares them.
-fn refusal(error: &TypedError, chunk: usize) -> Refusal {
-    let (number, fields): (u8, Vec<usize>) = match *error {
-        TypedError::StackUnderflow { ip } => (5, vec![ip]),
-        TypedError::OffsetOutOfBounds { ip, offset, need, size } => (6, vec![ip, offset, need, size as usize]),
-        TypedError::ExpectedComposite { ip } => (7, vec![ip]),
-        TypedError::NewCompositeSizeMismatch { ip, baked, computed } => {
-            (8, vec![ip, baked as usize, computed as usize])
-        }
-        TypedError::TextFieldMismatch { ip, offset } => (9, vec![ip, offset as usize]),
-        TypedError::BranchHeightMismatch { ip, then_height, else_height } => (10, vec![ip, then_height, else_height]),
-        TypedError::LoopNotNeutral { ip, entry_height, exit_height } => (11, vec![ip, entry_height, exit_height]),
-        TypedError::LoopFloorBreach { ip, floor, available, required } => (12, vec![ip, floor, available, required]),
-        TypedError::LocalTypeMismatch { ip, slot } => (13, vec![ip, slot]),
-        TypedError::CallArgMismatch { ip, callee, arg } => (14, vec![ip, callee, arg]),
-        TypedError::ArrayStrideMismatch { ip, element_size, array_size } => {
-            (15, vec![ip, element_size as usize, array_size as usize])
-        }
-        TypedError::SharedSlotOutOfBounds { slot, offset, size, buffer } => {
-            (16, vec![slot, offset, size, buffer as usize])
-        }
-        TypedError::EnumBodySizeMismatch { ip, baked } => (17, vec![ip, baked as usize]),
-        TypedError::PrivateCompositeLayoutInvalid { index, slot, reason } => {
-            (18, vec![index, slot, number_of(reason, &PRIVATE_REASONS)])
-        }
-        TypedError::SharedLayoutCountMismatch { shared_slots, layout_len, reason } => {
-            (19, vec![shared_slots, layout_len, number_of(reason, &SHARED_REASONS)])
-        }
-    };
-    Refusal { number, chunk, fields: fields.into_iter().map(|field| field as u64).collect() }
+/// Whether the reader of the build without floats, which has no kind 5 at all, refuses a listing, and how.
+pub fn refused_without_floats(bytes: &[u8]) -> Option<Refusal> {
+    original_without_floats::listing::read(bytes).err().map(with_own_type)
 }
 
-/// The reasons of 18, in the order in which the original tests them.
-const PRIVATE_REASONS: [&str; 4] = [
-    "slot index out of range",
-    "pool offset outside the persistent composite pool",
-    "slots are not strictly ascending",
-    "pool offsets are not strictly ascending",
-];
-
-/// The reasons of 19, likewise.
-const SHARED_REASONS: [&str; 2] = [
-    "shared slots are not a contiguous prefix of the slot array",
-    "shared-slot layout entry count does not match the shared-slot count",
-];
-
-fn number_of(reason: &str, reasons: &[&str]) -> usize {
-    1 + reasons.iter().position(|known| *known == reason).expect("a reason of the original")
+fn with_own_type(refusal: RefusalWithoutFloats) -> Refusal {
+    let RefusalWithoutFloats { number, chunk, fields } = refusal;
+    Refusal { number, chunk, fields }
 }

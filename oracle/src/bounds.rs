@@ -1,10 +1,11 @@
 //! Listings at a limit and just over it.
 
 use crate::bytecode::{
-    Chunk, ChunkSignature, ConstValue, DataSlot, EnumLayout, NewCompositeOperand, Op, PrivateCompositeLayout,
-    SharedSlotLayout, SlotVisibility, WireShape,
+    ArrayElem, Chunk, ChunkSignature, ConstValue, DataSlot, EnumLayout, NewCompositeOperand, Op,
+    PrivateCompositeLayout, SharedSlotLayout, SlotVisibility, WireShape,
 };
 use crate::damage;
+use crate::generator::Scope;
 use crate::limits::{MAX_HEIGHT, MAX_PLACES, Widths};
 use crate::listing::{
     self, Listing, MAX_BYTES, MAX_CONSTANTS, MAX_ENTRIES, MAX_LOCALS, MAX_OPS, MAX_PARAMS, MAX_SLOTS,
@@ -14,11 +15,12 @@ use crate::random::Random;
 use crate::tables::{Plan, tables};
 use crate::value_layout::{CompositeKind, ScalarKind};
 
-pub fn listing(random: &mut Random, small: bool) -> Vec<u8> {
-    let mut listing = tables(random, Plan { small, target: None, chunks: 1 });
+pub fn listing(random: &mut Random, scope: Scope) -> Vec<u8> {
+    let small = scope.small;
+    let mut listing = tables(random, Plan { scope, target: None, chunks: 1 });
     match random.below(12) {
         0 if !small => return long(random, listing),
-        1..=4 if !small => full_table(random, &mut listing),
+        1..=4 if !small => full_table(random, &mut listing, scope),
         0 | 1 => listing.module.signatures = vec![signature(MAX_PARAMS + random.below(2))],
         2..=5 => {
             let local_count = random.pick(&[MAX_LOCALS, MAX_LOCALS + 1, u16::MAX]);
@@ -58,7 +60,7 @@ fn long(random: &mut Random, mut listing: Listing) -> Vec<u8> {
 }
 
 /// A table with all the entries that it may have, or one more (limit 2).
-fn full_table(random: &mut Random, listing: &mut Listing) {
+fn full_table(random: &mut Random, listing: &mut Listing, scope: Scope) {
     let more = random.below(2);
     let (slots, entries) = (MAX_SLOTS + more, MAX_ENTRIES + more);
     match random.below(10) {
@@ -85,12 +87,17 @@ fn full_table(random: &mut Random, listing: &mut Listing) {
             let constants = vec![ConstValue::Unit; MAX_CONSTANTS / 2];
             let chunk = Chunk { constants, ..Chunk::default() };
             listing.module.chunks = vec![chunk; 2];
-            listing.module.chunks[1].constants.extend(vec![ConstValue::Other; more]);
+            listing.module.chunks[1].constants.extend(vec![ConstValue::Other(255); more]);
         }
         _ => {
             let chunk = Chunk { ops: vec![Op::Stream; MAX_OPS / 2], ..Chunk::default() };
             listing.module.chunks = vec![chunk; 2];
-            listing.module.chunks[1].ops.extend(vec![Op::Reset; more]);
+            // In twins the line that is one too many is no line at all where there are no floats.
+            let last = match scope.twin {
+                Some(_) => Op::GetIndex(ArrayElem::Flat { kind: ScalarKind::Float }),
+                None => Op::Reset,
+            };
+            listing.module.chunks[1].ops.extend(vec![last; more]);
         }
     }
 }

@@ -126,6 +126,10 @@ impl<'a> Builder<'a> {
         Widths::of(self.listing)
     }
 
+    fn has_floats(&self) -> bool {
+        self.listing.float_bytes > 0
+    }
+
     fn is_armed(&self) -> bool {
         self.target.is_some() && self.at() >= self.armed_from
     }

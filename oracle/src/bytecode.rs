@@ -10,6 +10,9 @@ pub const RUNTIME_ADDRESS_BITS_LOG2: u8 = 6;
 /// Marks a shared entry's KIND as a composite of LEN bytes.
 pub const SHARED_SLOT_COMPOSITE_FLAG: u8 = 0x80;
 
+/// K of a float. In a listing with F 0, and in a build without floats, no scalar has it.
+pub const FLOAT_TAG: u8 = 5;
+
 /// The traps that take operands.
 pub enum TrapKind {
     IndexOutOfBounds,
@@ -102,10 +105,11 @@ pub enum ConstValue {
     Byte(()),
     Int(()),
     Fixed(()),
+    #[cfg(feature = "floats")]
     Float(()),
     StaticStr(()),
-    /// K 255: any other constant.
-    Other,
+    /// Any other constant, with its K: 255, and 5 in a build without floats.
+    Other(u8),
 }
 
 impl ConstValue {
@@ -116,9 +120,12 @@ impl ConstValue {
         (2, ConstValue::Byte(())),
         (3, ConstValue::Int(())),
         (4, ConstValue::Fixed(())),
-        (5, ConstValue::Float(())),
+        #[cfg(feature = "floats")]
+        (FLOAT_TAG, ConstValue::Float(())),
+        #[cfg(not(feature = "floats"))]
+        (FLOAT_TAG, ConstValue::Other(FLOAT_TAG)),
         (6, ConstValue::StaticStr(())),
-        (255, ConstValue::Other),
+        (255, ConstValue::Other(255)),
     ];
 
     pub fn from_tag(tag: u8) -> Option<ConstValue> {

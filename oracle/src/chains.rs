@@ -2,20 +2,21 @@
 //! passes.
 
 use crate::bytecode::{Chunk, ConstValue, NewCompositeOperand, Op, TupleField};
+use crate::generator::Scope;
 use crate::limits::Widths;
 use crate::listing::Listing;
 use crate::random::Random;
 use crate::tables::{Plan, tables};
 use crate::value_layout::{CompositeKind, ScalarKind};
 
-pub fn listing(random: &mut Random, small: bool) -> Listing {
-    let mut listing = tables(random, Plan { small, target: None, chunks: 1 });
+pub fn listing(random: &mut Random, scope: Scope) -> Listing {
+    let mut listing = tables(random, Plan { scope, target: None, chunks: 1 });
     // Parameters would only accept what fits them.
     if random.chance(80) {
         listing.module.signatures.clear();
     }
     let locals = match random.below(4) {
-        _ if small => random.between(1, 2),
+        _ if scope.small => random.between(1, 2),
         0 => random.between(16, 32),
         _ => random.between(1, 12),
     };

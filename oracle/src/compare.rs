@@ -158,10 +158,15 @@ impl fmt::Display for Tally {
     }
 }
 
+/// In a full comparison one listing in so many at least is compared with the original without floats.
+const LEAST_WITHOUT_FLOATS: u64 = 10;
+
 #[derive(Default)]
 pub struct Comparison {
     listings: u64,
     with_original: Tally,
+    /// Those of them whose F is 0: the original is then the one without floats.
+    without_floats: Tally,
     with_second_walk: Tally,
     too_short: Tally,
     /// Why a listing was not compared with the original.
@@ -195,10 +200,13 @@ impl Comparison {
         let lengths = lengths_with_room(&mut random, instructions);
         let (words, mut faults) = call(check, bytes, lengths, &expected, &mut random);
         self.with_second_walk.add(faults.is_empty());
-        match nested.map(answer::answer_nested) {
-            Ok(original) => match original.words() {
+        match nested.map(|listing| (listing.float_bytes, answer::answer_nested(listing))) {
+            Ok((float_bytes, original)) => match original.words() {
                 Some(of_original) => {
                     self.with_original.add(words == of_original);
+                    if float_bytes == 0 {
+                        self.without_floats.add(words == of_original);
+                    }
                     if words != of_original {
                         faults.push(format!("answers {words:?}, where the original answers {of_original:?}"));
                     }
@@ -220,7 +228,8 @@ impl Comparison {
         }
     }
 
-    /// The answers that so many listings must reach and did not.
+    /// The answers that so many listings must reach and did not; and that too few were compared with the original without
+    /// floats.
     pub fn missing(&self, size: Size) -> Vec<String> {
         if self.listings < FULL_COUNT {
             return Vec::new();
@@ -228,6 +237,10 @@ impl Comparison {
         let mut wanted = survey::answers_compared(size);
         wanted.extend(["refused  4", "refused  2, limit 5", "refused  2, limit 6"].map(String::from));
         wanted.retain(|answer| !self.answers.contains_key(answer));
+        let least = self.listings / LEAST_WITHOUT_FLOATS;
+        if self.without_floats.compared < least {
+            wanted.push(format!("{least} comparisons with the original without floats"));
+        }
         wanted
     }
 
@@ -235,6 +248,7 @@ impl Comparison {
     pub fn report(&self) -> String {
         let mut out = format!("listings {}\n", self.listings);
         out.push_str(&format!("answer, with the original: {}\n", self.with_original));
+        out.push_str(&format!("of these, with the original without floats: {}\n", self.without_floats));
         out.push_str(&format!("answer and both sheets, with the second walk: {}\n", self.with_second_walk));
         out.push_str(&format!("refusal 4, with a sheet too short: {}\n", self.too_short));
         let mut table = |title: &str, counts: &BTreeMap<String, u64>| {
@@ -260,6 +274,7 @@ fn disagreement(number: u64, faults: &[String], bytes: &[u8]) -> Vec<u8> {
 #[cfg(test)]
 mod tests {
     use super::*;
+    use crate::twins;
 
     type Call<'a> = (&'a [u8], &'a mut [u8], &'a mut [u8], &'a mut [u64; ANSWER_WORDS]);
 
@@ -290,6 +305,24 @@ mod tests {
         compare(&check, 1, 2_000, Size::Any).disagreements.len()
     }
 
+    /// The same for a checker that is right but for what it takes a listing with F 0 for: on how many it differs from the
+    /// original, and on how many in all.
+    fn disagreements_without_floats(mistake: fn(&[u8]) -> Vec<u8>) -> (u64, usize) {
+        let check = |bytes: &[u8], heights: &mut [u8], blinds: &mut [u8], answer: &mut [u64; ANSWER_WORDS]| {
+            let taken_for = if twins::is_without_floats(bytes) { mistake(bytes) } else { bytes.to_vec() };
+            right((&taken_for, heights, blinds, answer))
+        };
+        let comparison = compare(&check, 1, 2_000, Size::Any);
+        let Tally { compared, agreeing } = comparison.without_floats;
+        (compared - agreeing, comparison.disagreements.len())
+    }
+
+    fn replaced(bytes: &[u8], from: &str, to: &str) -> Vec<u8> {
+        // Bytes that are no text stay what they are, since each is taken for a character.
+        let text: String = bytes.iter().map(|byte| char::from(*byte)).collect();
+        text.replace(from, to).chars().map(|character| character as u8).collect()
+    }
+
     #[test]
     fn a_right_checker_agrees() {
         assert_eq!(disagreements(|_, _| ()), 0);
@@ -318,6 +351,36 @@ mod tests {
         ];
         for (what, spoil) in wrong {
             assert!(disagreements(spoil) > 0, "{what} is not found");
+        }
+    }
+
+    /// Each is found where the original without floats answers, but for an op that names kind 5, which is not read.
+    #[test]
+    fn checkers_that_are_wrong_without_floats_disagree() {
+        assert_eq!(disagreements_without_floats(|bytes| bytes.to_vec()), (0, 0));
+        let wrong: [(&str, fn(&[u8]) -> Vec<u8>); 7] = [
+            ("a first line that is refused", |bytes| twins::with_float_bytes(bytes, 3)),
+            ("floats of 8 bytes", |bytes| twins::with_float_bytes(bytes, 8)),
+            ("a constant that is a scalar", |bytes| replaced(bytes, "(const 5)", "(const 0)")),
+            ("a constant that is refused", |bytes| replaced(bytes, "(const 5)", "(const 7)")),
+            ("a declared shape that is a scalar", |bytes| replaced(bytes, "(scalar 5)", "(scalar 0)")),
+            ("a shared entry of no bytes that passes", |bytes| {
+                let lines = bytes.split_inclusive(|byte| *byte == b'\n');
+                let of_kind_0 = |line: &[u8]| match line.starts_with(b"(shared ") {
+                    true => replaced(line, " 5 ", " 0 "),
+                    false => line.to_vec(),
+                };
+                lines.flat_map(of_kind_0).collect()
+            }),
+            ("an op of kind 5 that is read", |bytes| {
+                let twin = twins::with_float_bytes(bytes, 8);
+                if listing::read(bytes).is_err() && listing::read(&twin).is_ok() { twin } else { bytes.to_vec() }
+            }),
+        ];
+        for (what, mistake) in wrong {
+            let (with_original, all) = disagreements_without_floats(mistake);
+            assert!(all > 0, "{what} is not found");
+            assert!(with_original > 0 || what.ends_with("that is read"), "{what} is not found by the original");
         }
     }
 }

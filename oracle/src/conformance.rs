@@ -1,7 +1,7 @@
 //! The conformance kit: listings with the whole text that `stagecheck` prints for each. Which listings it has, and
 //! whether texts are those of the second walk and, where it has an answer, of the original.
 
-use crate::answer::{Answer, answer};
+use crate::answer::answer;
 use crate::choice::{Choice, Class};
 use crate::forms;
 use crate::generator::{self, Size};
@@ -117,10 +117,9 @@ impl Kit {
         if text != Some(expected.as_bytes()) {
             self.faults.push(format!("{name}: the answer is missing, or not that of the second walk"));
         }
-        match answer(listing) {
-            Answer::BeyondLimit(_) | Answer::BeyondCodes => {}
-            answer if expected.lines().next() == Some(&answer.to_string()) => {}
-            answer => self.faults.push(format!("{name}: the original says {answer}")),
+        let answer = answer(listing);
+        if answer.words().is_some() && expected.lines().next() != Some(&answer.to_string()) {
+            self.faults.push(format!("{name}: the original says {answer}"));
         }
         self.with_original += u64::from(replay::original(listing).is_some());
     }

@@ -1,16 +1,19 @@
 //! The pieces of a listing's lines: words, numbers and operands, read strictly and written back.
 
+use crate::bytecode::FLOAT_TAG;
 use crate::value_layout::{CompositeKind, ScalarKind};
 
 /// What is left of a listing. Nothing of it is copied: words are slices of the listing's bytes.
 #[derive(Clone, Copy)]
 pub struct Cursor<'a> {
     rest: &'a [u8],
+    /// Whether an op may name kind 5: the first line says so for the lines after it.
+    pub has_floats: bool,
 }
 
 impl<'a> Cursor<'a> {
     pub fn new(bytes: &'a [u8]) -> Cursor<'a> {
-        Cursor { rest: bytes }
+        Cursor { rest: bytes, has_floats: true }
     }
 
     pub fn bytes_left(&self) -> usize {
@@ -80,10 +83,14 @@ macro_rules! number_operands {
 }
 number_operands!(u8, u16, u32);
 
-/// K of an op, 0 to 7.
+/// K of an op, 0 to 7; not 5 where the listing has no floats.
 impl Operand for ScalarKind {
     fn read(cursor: &mut Cursor) -> Option<Self> {
-        ScalarKind::from_tag(u8::read(cursor)?)
+        let tag = u8::read(cursor)?;
+        if tag == FLOAT_TAG && !cursor.has_floats {
+            return None;
+        }
+        ScalarKind::from_tag(tag)
     }
 
     fn write(&self, out: &mut String) {

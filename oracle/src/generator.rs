@@ -2,11 +2,14 @@
 
 use crate::bounds;
 use crate::builder::{self, ChunkPlan};
+use crate::bytecode::{ArrayElem, EnumField, Op, StructField, TupleField};
 use crate::chains;
 use crate::damage;
 use crate::listing::{self, Listing, MAX_ENTRIES, MAX_OPS};
 use crate::random::Random;
 use crate::tables::{self, Plan};
+use crate::twins;
+use crate::value_layout::ScalarKind;
 
 /// What a listing is to be refused with.
 #[derive(Clone, Copy, PartialEq, Eq)]
@@ -28,31 +31,64 @@ pub enum Size {
     Small,
 }
 
+/// What a listing is to be like, whatever it is about.
+#[derive(Clone, Copy)]
+pub struct Scope {
+    pub small: bool,
+    /// Of a pair of listings with F 0 and with F 8, the one that it is built for.
+    pub twin: Option<Twin>,
+}
+
+#[derive(Clone, Copy, PartialEq, Eq)]
+pub enum Twin {
+    WithoutFloats,
+    WithFloats,
+}
+
 /// The most bytes and instructions of a small listing. One about a limit has more: eight open blocks, or 64
 /// operands, are not had with fewer.
 const SMALL_BYTES: usize = 600;
 const SMALL_OPS: usize = 12;
 const SMALL_OPS_AT_A_LIMIT: usize = 18;
 
-/// Listing `number` of a seed.
+/// Listing `number` of a seed. Of each four the last two are one listing, with F 0 and with F 8.
 pub fn listing(seed: u64, number: u64, size: Size) -> Vec<u8> {
+    match number % 4 {
+        2 => twin(seed, number, size, 0),
+        3 => twin(seed, number - 1, size, 8),
+        _ => listing_with_floats(seed, number, size),
+    }
+}
+
+/// Listing `number` of a seed where all have floats.
+pub fn listing_with_floats(seed: u64, number: u64, size: Size) -> Vec<u8> {
     let mut random = Random::new(seed, number);
-    let small = size == Size::Small;
     let is_damaged = random.chance(22);
-    let whole = whole(&mut random, small);
+    let whole = whole(&mut random, Scope { small: size == Size::Small, twin: None });
+    if is_damaged { damage::damaged(&mut random, &whole) } else { whole }
+}
+
+/// A listing with so many float bytes, 0 or 8. It is built for the one or for the other, so that what kind 5 comes to in
+/// the one that it is not built for is left to chance.
+fn twin(seed: u64, number: u64, size: Size, float_bytes: u8) -> Vec<u8> {
+    let mut random = Random::new(seed, number);
+    let is_damaged = random.chance(22);
+    let built_for = if random.chance(60) { Twin::WithoutFloats } else { Twin::WithFloats };
+    let whole = whole(&mut random, Scope { small: size == Size::Small, twin: Some(built_for) });
+    let whole = twins::with_float_bytes(&whole, float_bytes);
     if is_damaged { damage::damaged(&mut random, &whole) } else { whole }
 }
 
 /// A listing that is not damaged, and small if it is to be.
-fn whole(random: &mut Random, small: bool) -> Vec<u8> {
+fn whole(random: &mut Random, scope: Scope) -> Vec<u8> {
     loop {
         let (bytes, most_ops) = match random.below(100) {
-            0..5 => (bounds::listing(random, small), SMALL_OPS_AT_A_LIMIT),
-            5..12 => (write(&chains::listing(random, small)), SMALL_OPS),
-            12..18 => (write(&misnested(random, small)), SMALL_OPS),
-            _ => (write(&program(random, small)), SMALL_OPS),
+            0..5 => (bounds::listing(random, scope), SMALL_OPS_AT_A_LIMIT),
+            5..12 => (write(&chains::listing(random, scope)), SMALL_OPS),
+            12..18 => (write(&misnested(random, scope)), SMALL_OPS),
+            _ => (write(&program(random, scope)), SMALL_OPS),
         };
-        if !small || (bytes.len() <= SMALL_BYTES && count_ops(&bytes) <= most_ops) {
+        if !scope.small || (bytes.len() <= SMALL_BYTES && count_ops(&bytes) <= most_ops) {
             return bytes;
         }
     }
@@ -67,8 +103,8 @@ fn count_ops(bytes: &[u8]) -> usize {
 }
 
 /// A module whose nesting is broken, for the most part.
-fn misnested(random: &mut Random, small: bool) -> Listing {
-    let mut listing = program(random, small);
+fn misnested(random: &mut Random, scope: Scope) -> Listing {
+    let mut listing = program(random, scope);
     let chunk = random.below(listing.module.chunks.len());
     damage::misnest(random, &mut listing.module.chunks[chunk]);
     listing
@@ -110,8 +146,9 @@ fn target(random: &mut Random) -> Option<Target> {
 }
 
 /// A module of some chunks, with one refusal or none.
-fn program(random: &mut Random, small: bool) -> Listing {
+fn program(random: &mut Random, scope: Scope) -> Listing {
     let target = target(random);
+    let small = scope.small;
     let ops = match random.below(200) {
         _ if small => random.between(1, 9),
         0 => MAX_OPS - 2,
@@ -125,7 +162,7 @@ fn program(random: &mut Random, small: bool) -> Listing {
         1..=5 => random.between(2, 3),
         _ => 1,
     };
-    let mut listing = tables::tables(random, Plan { small, target, chunks });
+    let mut listing = tables::tables(random, Plan { scope, target, chunks });
     let at_fault = random.below(chunks);
     for number in 0..chunks {
         let share = ops / chunks + 1;
@@ -139,7 +176,43 @@ fn program(random: &mut Random, small: bool) -> Listing {
         let chunk = builder::chunk(random, &listing, number, plan);
         listing.module.chunks.push(chunk);
     }
+    if scope.twin.is_some() {
+        match random.below(100) {
+            0..10 => append_float_op(random, &mut listing),
+            10..90 => rename_float_ops(&mut listing),
+            _ => {}
+        }
+    }
     listing
+}
+
+/// Puts an op that names kind 5 or that the original without floats lacks at the end of a chunk. Where the chunk ends with a
+/// Return, it is not examined.
+fn append_float_op(random: &mut Random, listing: &mut Listing) {
+    let kind = ScalarKind::Float;
+    let offset = random.word();
+    let op = random.pick(&[
+        Op::GetField(StructField::Flat { offset, kind }),
+        Op::GetTupleField(TupleField::Flat { offset, kind }),
+        Op::GetEnumField(EnumField::Flat { offset, kind }),
+        Op::GetIndex(ArrayElem::Flat { kind }),
+        Op::IntToFloat,
+        Op::FloatToInt,
+    ]);
+    let chunk = random.below(listing.module.chunks.len());
+    listing.module.chunks[chunk].ops.push(op);
+}
+
+/// Names that the original without floats has, for the two that it lacks: a listing that names those is not compared with
+/// it. Need and net, and what they push, are the same.
+fn rename_float_ops(listing: &mut Listing) {
+    for op in listing.module.chunks.iter_mut().flat_map(|chunk| &mut chunk.ops) {
+        match op {
+            Op::IntToFloat => *op = Op::Neg,
+            Op::FloatToInt => *op = Op::Not,
+            _ => {}
+        }
+    }
 }
 
 /// Takes a last argument `small` off a program's arguments.

@@ -4,7 +4,6 @@ use crate::bytecode::{SHARED_SLOT_COMPOSITE_FLAG, SharedSlotLayout, SlotVisibili
 use crate::limits::Widths;
 use crate::listing::Listing;
 use crate::refusal::Refusal;
-use crate::value_layout::ScalarKind;
 
 pub fn check(listing: &Listing) -> Result<(), Refusal> {
     shared_prefix(listing)?;
@@ -49,7 +48,8 @@ fn entry_size(listing: &Listing, entry: &SharedSlotLayout) -> Option<u64> {
     if entry.kind >= SHARED_SLOT_COMPOSITE_FLAG {
         return Some(u64::from(entry.len));
     }
-    ScalarKind::from_tag(entry.kind).map(|kind| u64::from(Widths::of(listing).scalar(kind)))
+    let widths = Widths::of(listing);
+    widths.known(entry.kind).map(|kind| u64::from(widths.scalar(kind)))
 }
 
 fn private_entries(listing: &Listing) -> Result<(), Refusal> {

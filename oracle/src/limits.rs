@@ -2,8 +2,8 @@
 //! both sheets; everything else must come out as the original has it.
 
 use crate::bytecode::{
-    ArrayElem, Chunk, ChunkSignature, ConstValue, EnumField, NewCompositeOperand, Op, StructField, TupleField,
-    WireShape,
+    ArrayElem, Chunk, ChunkSignature, ConstValue, EnumField, FLOAT_TAG, NewCompositeOperand, Op, StructField,
+    TupleField, WireShape,
 };
 use crate::listing::Listing;
 use crate::value_layout::{CompositeKind, ScalarKind};
@@ -33,10 +33,10 @@ impl Shape {
     const INT: Shape = Shape::Scalar(ScalarKind::Int);
 
     /// A shape of a `sig` or `native` line.
-    pub fn declared(wire: &WireShape) -> Shape {
+    pub fn declared(wire: &WireShape, widths: Widths) -> Shape {
         let known = match *wire {
             WireShape::Top => None,
-            WireShape::Scalar { kind } => ScalarKind::from_tag(kind).map(Shape::Scalar),
+            WireShape::Scalar { kind } => widths.known(kind).map(Shape::Scalar),
             WireShape::Flat { kind, size } => {
                 CompositeKind::from_tag(kind).map(|kind| Shape::Composite { kind, size, places: None })
             }
@@ -44,8 +44,8 @@ impl Shape {
         known.unwrap_or(Shape::Unknown)
     }
 
-    fn constant(value: &ConstValue) -> Shape {
-        ScalarKind::from_tag(value.to_tag()).map_or(Shape::Unknown, Shape::Scalar)
+    fn constant(value: &ConstValue, widths: Widths) -> Shape {
+        widths.known(value.to_tag()).map_or(Shape::Unknown, Shape::Scalar)
     }
 
     fn join(&self, other: &Shape) -> Shape {
@@ -102,7 +102,7 @@ impl Shape {
     }
 }
 
-/// Bytes of a word, a float and an address.
+/// Bytes of a word, a float and an address. Where a float has none, the listing has no floats.
 #[derive(Clone, Copy)]
 pub struct Widths {
     word: usize,
@@ -116,7 +116,15 @@ impl Widths {
         Widths { word: listing.word_bytes, float: listing.float_bytes, address }
     }
 
+    /// The scalar of a tag, if it is known: with F 0 kind 5 counts as a tag not known.
+    pub fn known(self, tag: u8) -> Option<ScalarKind> {
+        let is_lacking = tag == FLOAT_TAG && self.float == 0;
+        if is_lacking { None } else { ScalarKind::from_tag(tag) }
+    }
+
+    /// The bytes of a scalar that the listing has.
     pub fn scalar(self, kind: ScalarKind) -> u32 {
+        assert!(self.known(kind.to_tag()).is_some(), "a kind that the listing lacks has no width");
         kind.size_in_bytes(self.word, self.float, self.address) as u32
     }
 
@@ -204,7 +212,12 @@ impl<'a> Context<'a> {
 
     /// The declared shape of a local; unknown past the parameters.
     fn parameter(&self, slot: usize) -> Shape {
-        self.sig.and_then(|sig| sig.params.get(slot)).map_or(Shape::Unknown, Shape::declared)
+        self.declared(self.sig.and_then(|sig| sig.params.get(slot)))
+    }
+
+    /// The shape that a line gives; unknown where there is none.
+    fn declared(&self, wire: Option<&WireShape>) -> Shape {
+        wire.map_or(Shape::Unknown, |wire| Shape::declared(wire, self.widths))
     }
 
     /// Operands taken and pushed. Only Trap depends on the listing's codes, which need not be the original's.
@@ -269,13 +282,13 @@ impl<'a> Context<'a> {
                 Vec::new()
             }
             Op::Yield => {
-                let resume = self.sig.map_or(Shape::Unknown, |sig| Shape::declared(&sig.resume));
+                let resume = self.declared(self.sig.map(|sig| &sig.resume));
                 notes.count(if resume == Shape::Unknown { "unknown resumed" } else { "declared shape resumed" });
                 vec![resume]
             }
             Op::Const(index) => {
                 let value = self.chunk.constants.get(usize::from(*index));
-                vec![value.map_or(Shape::Unknown, Shape::constant)]
+                vec![value.map_or(Shape::Unknown, |value| Shape::constant(value, self.widths))]
             }
             Op::NewComposite(NewCompositeOperand::Flat { kind, byte_size, .. }) => {
                 vec![self.composite(ip, *kind, u32::from(*byte_size), &taken, notes)?]
@@ -283,8 +296,7 @@ impl<'a> Context<'a> {
             Op::GetIndex(element) => self.element(ip, element, &taken[0], notes)?,
             Op::Call(callee, _) => vec![self.call(ip, usize::from(*callee), &taken, notes)?],
             Op::CallVerifiedNative(native, count) | Op::CallExternalNative(native, count) => {
-                let declared = self.listing.module.native_return_shapes.get(usize::from(*native));
-                let value = declared.map_or(Shape::Unknown, Shape::declared);
+                let value = self.declared(self.listing.module.native_return_shapes.get(usize::from(*native)));
                 let flagged = count & 0x80 != 0;
                 notes.count(if flagged { "native call with a flag" } else { "native call without a flag" });
                 with_ints(value, usize::from(flagged))
@@ -453,7 +465,7 @@ impl<'a> Context<'a> {
             notes.count("call without a signature");
             return Ok(Shape::Unknown);
         };
-        let declared = sig.params.iter().map(Shape::declared);
+        let declared = sig.params.iter().map(|wire| Shape::declared(wire, self.widths));
         if let Some(argument) = arguments.iter().zip(declared).position(|(shape, declared)| !shape.fits(&declared)) {
             return fault(14, [ip as u64, callee as u64, argument as u64]);
         }
@@ -462,7 +474,7 @@ impl<'a> Context<'a> {
             std::cmp::Ordering::Equal => "call with as many arguments as declared",
             std::cmp::Ordering::Greater => "call with more arguments than declared",
         });
-        Ok(Shape::declared(&sig.ret))
+        Ok(Shape::declared(&sig.ret, self.widths))
     }
 }
 

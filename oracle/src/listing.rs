@@ -18,7 +18,8 @@ pub const MAX_OPS: usize = 4_096;
 /// The most locals of a chunk (limit 3).
 pub const MAX_LOCALS: u16 = 32;
 
-/// A module with what its first line says besides: widths in bytes, and the two trap codes.
+/// A module with what its first line says besides: widths in bytes, and the two trap codes. Where the listing has no
+/// floats, `float_bytes` is 0.
 #[derive(Clone, Debug, PartialEq, Eq)]
 pub struct Listing {
     pub word_bytes: usize,
@@ -163,9 +164,9 @@ fn close(cursor: &mut Cursor) -> Result<(), Fault> {
 
 fn header(cursor: &mut Cursor) -> Option<Listing> {
     cursor.text("(module")?;
-    let mut width = || cursor.number(8).filter(|bytes| bytes.is_power_of_two());
-    let word_bytes = width()? as usize;
-    let float_bytes = width()? as usize;
+    let word_bytes = cursor.number(8).filter(|bytes| bytes.is_power_of_two())? as usize;
+    let float_bytes = cursor.number(8).filter(|bytes| *bytes == 0 || bytes.is_power_of_two())? as usize;
+    cursor.has_floats = float_bytes > 0;
     let addr_bits_log2 = u8::read(cursor).filter(|log| (3..=6).contains(log))?;
     let shared_data_bytes = u32::read(cursor)?;
     let persistent_composite_bytes = u32::read(cursor)?;
@@ -319,6 +320,29 @@ mod tests {
         assert_eq!(refused(format!("{MODULE}(chunk 33\nx\n")), [2, 0, 0, 3]);
         assert_eq!(refused(format!("{MODULE}(chunk 33")), [1, 0, 1]);
         assert_eq!(refused(format!("{MODULE}(chunk 0\n{}(op x", "(op Dup)\n".repeat(MAX_OPS + 1))), [2, 0, 0, 2]);
+    }
+
+    #[test]
+    fn with_f_0_an_op_of_kind_5_cannot_follow_wherever_it_stands() {
+        for op in ["GetField Flat 0", "GetTupleField Flat 0", "GetEnumField Flat 0", "GetIndex Flat"] {
+            for (before, lines) in [("", 2), ("(op Return)\n", 3), (&"(op Dup)\n".repeat(MAX_OPS), 2 + MAX_OPS as u64)]
+            {
+                let line = |kind: u8| format!("(module 8 0 6 0 0 8 9\n(chunk 0\n{before}(op {op} {kind})\n(op x");
+                assert_eq!(refused(line(5)), [1, 0, lines]);
+                let past_the_table = before.len() > 100;
+                let later = if past_the_table { vec![2, 0, 0, 2] } else { vec![1, 0, lines + 1] };
+                assert_eq!(refused(line(6)), later);
+            }
+        }
+    }
+
+    #[test]
+    fn f_may_be_0_and_a_constant_of_kind_5_is_read_and_written() {
+        let text = "(module 8 0 6 0 0 8 9\n(chunk 0\n(const 5)\n(const 255)\n(op FixedMul 5)\n)\n)\n";
+        assert_eq!(write(&read(text.as_bytes()).expect("it is read")), text);
+        for head in ["(module 0 8", "(module 0 0", "(module 8 00", "(module 8 3", "(module 8 16"] {
+            assert_eq!(refused(format!("{head} 6 0 0 8 9\n)\n")), [1, 0, 0]);
+        }
     }
 
     #[test]

@@ -7,10 +7,10 @@ use crate::bytecode::{
     TupleField, WireShape,
 };
 use crate::generator::{self, Size};
-use crate::limits::{Mark, Notes, Shape};
+use crate::limits::{Mark, Notes, Shape, Widths};
 use crate::listing::{self, Listing, MAX_LOCALS};
 use crate::refusal::Refusal;
-use crate::{nesting, whole};
+use crate::{nesting, twins, whole};
 use std::collections::{BTreeMap, BTreeSet};
 
 /// From this count on a survey must reach all that it can; fewer listings may miss something.
@@ -41,7 +41,14 @@ pub fn survey(seed: u64, count: u64, size: Size) -> Survey {
 
 impl Survey {
     pub fn add(&mut self, number: u64, bytes: &[u8]) {
-        let listing = match listing::read(bytes) {
+        let read = listing::read(bytes);
+        if twins::is_without_floats(bytes) {
+            if read.as_ref().err() != answer::refused_without_floats(bytes).as_ref() {
+                self.faults.push(format!("listing {number} is read otherwise by the build without floats"));
+            }
+            twins::places(bytes).into_iter().for_each(|place| self.notes.count(place));
+        }
+        let listing = match read {
             Ok(listing) => listing,
             Err(refusal) => return self.count_refusal(&refusal),
         };
@@ -68,6 +75,7 @@ impl Survey {
         };
         match answer::answer_nested(listing) {
             Answer::BeyondCodes => count(&mut self.answers, "left out: other trap codes"),
+            Answer::BeyondNames => count(&mut self.answers, "left out: names of floats with F 0"),
             Answer::BeyondLimit(limit) => count(&mut self.answers, &format!("left out: limit {limit}")),
             original => {
                 if original != own {
@@ -100,7 +108,9 @@ impl Survey {
         };
         let in_signatures = module.signatures.iter().flat_map(|sig| sig.params.iter().chain([&sig.ret, &sig.resume]));
         let shapes: Vec<&WireShape> = module.native_return_shapes.iter().chain(in_signatures).collect();
-        let is_unknown = |shape: &&WireShape| **shape != WireShape::Top && Shape::declared(shape) == Shape::Unknown;
+        let widths = Widths::of(listing);
+        let is_unknown =
+            |shape: &&WireShape| **shape != WireShape::Top && Shape::declared(shape, widths) == Shape::Unknown;
         note(shapes.iter().any(is_unknown), "shape whose tag is not known");
         let entries = &listing.layout().shared_layout;
         note(entries.iter().any(|entry| entry.kind >= SHARED_SLOT_COMPOSITE_FLAG), "composite shared entry");
@@ -185,8 +195,12 @@ fn loop_with(passes: usize) -> String {
 pub fn wanted(size: Size) -> Vec<String> {
     let mut wanted = answers_compared(size);
     wanted.extend(["left out: limit 5", "left out: limit 6", "left out: other trap codes"].map(String::from));
+    wanted.push("left out: names of floats with F 0".to_string());
     wanted.extend(wanted_forms());
-    wanted.extend(WANTED_NOTES.iter().map(|what| what.to_string()));
+    wanted.extend(WANTED_NOTES.iter().chain(twins::PLACES).map(|what| what.to_string()));
+    if size == Size::Any {
+        wanted.push(twins::PLACE_PAST_THE_OPS.to_string());
+    }
     // LOCALS widenings, and the pass that finds all stable.
     let most_passes = if size == Size::Small { 3 } else { usize::from(MAX_LOCALS) + 1 };
     wanted.extend((1..=most_passes).map(loop_with));

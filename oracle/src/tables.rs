@@ -1,10 +1,10 @@
 //! The tables of a generated listing: all of it but the chunks.
 
 use crate::bytecode::{
-    ChunkSignature, DataLayout, DataSlot, EnumLayout, Module, PrivateCompositeLayout, SHARED_SLOT_COMPOSITE_FLAG,
-    SharedSlotLayout, SlotVisibility, TrapKind, WireShape,
+    ChunkSignature, DataLayout, DataSlot, EnumLayout, FLOAT_TAG, Module, PrivateCompositeLayout,
+    SHARED_SLOT_COMPOSITE_FLAG, SharedSlotLayout, SlotVisibility, TrapKind, WireShape,
 };
-use crate::generator::Target;
+use crate::generator::{Scope, Target, Twin};
 use crate::limits::Widths;
 use crate::listing::{Listing, MAX_PARAMS};
 use crate::random::Random;
@@ -13,29 +13,30 @@ use crate::value_layout::ScalarKind;
 /// What a listing is to be like.
 #[derive(Clone, Copy)]
 pub struct Plan {
-    pub small: bool,
+    pub scope: Scope,
     pub target: Option<Target>,
     pub chunks: usize,
 }
 
 /// A listing without chunks.
 pub fn tables(random: &mut Random, plan: Plan) -> Listing {
-    let mut listing = header(random);
+    let Scope { small, twin } = plan.scope;
+    let mut listing = header(random, twin);
     match plan.target {
         Some(Target::Layout(number, reason)) => faulty_layout(random, &mut listing, number, reason),
-        _ if random.chance(if plan.small { 10 } else { 30 }) => {
+        _ if random.chance(if small { 10 } else { 30 }) => {
             valid_layout(random, &mut listing, 0);
         }
         _ => {}
     }
-    let most = if plan.small { 1 } else { 3 };
+    let most = if small { 1 } else { 3 };
     if plan.target == Some(Target::Refusal(17)) || random.chance(40) {
         let count = random.between(1, most);
         listing.module.enum_layouts = (0..count).map(|_| EnumLayout { min_payload: random.long() }).collect();
     }
     if random.chance(50) {
         let count = random.between(1, most);
-        listing.module.native_return_shapes = (0..count).map(|_| shape(random)).collect();
+        listing.module.native_return_shapes = (0..count).map(|_| shape(random, twin)).collect();
     }
     if plan.target == Some(Target::Refusal(8)) && random.chance(30) {
         listing.module.native_return_shapes = vec![WireShape::Flat { kind: 0, size: u32::MAX }];
@@ -44,7 +45,7 @@ pub fn tables(random: &mut Random, plan: Plan) -> Listing {
     listing
 }
 
-fn header(random: &mut Random) -> Listing {
+fn header(random: &mut Random, twin: Option<Twin>) -> Listing {
     let widths = [8, 8, 8, 4, 2, 1];
     let (index_code, host_code) = if random.chance(97) {
         (TrapKind::IndexOutOfBounds.code(), TrapKind::HostError.code())
@@ -53,7 +54,11 @@ fn header(random: &mut Random) -> Listing {
     };
     Listing {
         word_bytes: random.pick(&widths),
-        float_bytes: random.pick(&widths),
+        float_bytes: match twin {
+            None => random.pick(&widths),
+            Some(Twin::WithFloats) => 8,
+            Some(Twin::WithoutFloats) => 0,
+        },
         index_code,
         host_code,
         module: Module {
@@ -100,9 +105,11 @@ fn shared_entry(random: &mut Random, listing: &Listing) -> (u8, u16, u32) {
         let len = random.below(40) as u16;
         return (SHARED_SLOT_COMPOSITE_FLAG | random.byte(), len, u32::from(len));
     }
+    let widths = Widths::of(listing);
     let tag = random.below(8) as u8;
-    let kind = ScalarKind::from_tag(tag).expect("tags 0 to 7 are known");
-    (tag, random.word(), Widths::of(listing).scalar(kind))
+    // Of the tags 0 to 7 the listing may lack one, which the last of them stands in for.
+    let kind = widths.known(tag).unwrap_or(ScalarKind::Opaque);
+    (kind.to_tag(), random.word(), widths.scalar(kind))
 }
 
 /// A layout with one fault: refusal `number` with `reason` (0 where it has none).
@@ -138,7 +145,10 @@ fn faulty_layout(random: &mut Random, listing: &mut Listing, number: u8, reason:
 fn faulty_shared_entry(random: &mut Random, listing: &mut Listing) {
     let buffer = listing.module.shared_data_bytes;
     let by_kind = random.chance(30);
-    let kind = random.between(8, 127) as u8;
+    let mut kind = random.between(8, 127) as u8;
+    if listing.float_bytes == 0 && random.chance(60) {
+        kind = FLOAT_TAG;
+    }
     let offset = random.pick(&[buffer, buffer.saturating_sub(1), u32::MAX]);
     let entries = &mut listing.layout_mut().shared_layout;
     let at = random.below(entries.len());
@@ -159,25 +169,30 @@ fn signatures(random: &mut Random, plan: Plan) -> Vec<ChunkSignature> {
         2 => plan.chunks + random.below(3),
         _ => plan.chunks,
     };
-    (0..count.min(64)).map(|_| signature(random, plan.small, wants_params)).collect()
+    (0..count.min(64)).map(|_| signature(random, plan.scope, wants_params)).collect()
 }
 
-fn signature(random: &mut Random, small: bool, wants_params: bool) -> ChunkSignature {
+fn signature(random: &mut Random, scope: Scope, wants_params: bool) -> ChunkSignature {
+    let Scope { small, twin } = scope;
     let most = match random.below(20) {
         0 if !small => MAX_PARAMS,
         _ if small => 2,
         _ => 4,
     };
     let count = random.between(usize::from(wants_params), most);
-    let mut params: Vec<WireShape> = (0..count).map(|_| shape(random)).collect();
+    let mut params: Vec<WireShape> = (0..count).map(|_| shape(random, twin)).collect();
     if wants_params {
         params[0] = WireShape::Flat { kind: random.below(4) as u8, size: random.below(40) as u32 };
     }
-    ChunkSignature { params, ret: shape(random), resume: shape(random) }
+    ChunkSignature { params, ret: shape(random, twin), resume: shape(random, twin) }
 }
 
-/// A shape of a `sig` or `native` line, at times with a tag that is not known.
-fn shape(random: &mut Random) -> WireShape {
+/// A shape of a `sig` or `native` line, at times with a tag that is not known. In twins 5 comes often.
+fn shape(random: &mut Random, twin: Option<Twin>) -> WireShape {
+    if twin.is_some() && random.chance(30) {
+        let flat = WireShape::Flat { kind: FLOAT_TAG, size: random.long() };
+        return if random.chance(85) { WireShape::Scalar { kind: FLOAT_TAG } } else { flat };
+    }
     match random.below(20) {
         0 => WireShape::Scalar { kind: random.between(8, 255) as u8 },
         1 => WireShape::Flat { kind: random.between(4, 255) as u8, size: random.long() },

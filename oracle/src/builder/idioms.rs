@@ -1,13 +1,16 @@
 //! A few instructions that belong together.
 
 use super::Builder;
-use crate::bytecode::{ArrayElem, EnumField, NewCompositeOperand, Op, StructField};
+use crate::bytecode::{ArrayElem, EnumField, FLOAT_TAG, NewCompositeOperand, Op, StructField, WireShape};
 use crate::limits::Shape;
 use crate::value_layout::{CompositeKind, ScalarKind};
 
 impl Builder<'_> {
     /// A few instructions that belong together.
     pub(super) fn idiom(&mut self) {
+        if !self.has_floats() && self.random.chance(15) {
+            return self.use_of_kind_5();
+        }
         match self.random.below(13) {
             0 | 1 => self.build_and_read(),
             9..=11 => {
@@ -35,6 +38,58 @@ impl Builder<'_> {
             7 => self.trap_guard(),
             _ => self.drop_some(),
         }
+    }
+
+    /// An operand of kind 5, which is unknown without floats: a constant, or what a line declares so.
+    fn emit_of_kind_5(&mut self) {
+        let constant = self.constant(FLOAT_TAG);
+        let module = &self.listing.module;
+        let sig = module.signatures.get(self.number);
+        let is_float = |shape: &WireShape| *shape == WireShape::Scalar { kind: FLOAT_TAG };
+        let parameter = sig.and_then(|sig| sig.params.iter().position(is_float));
+        let native = module.native_return_shapes.iter().position(is_float);
+        let callee = module.signatures.iter().position(|sig| is_float(&sig.ret));
+        let resumed = sig.filter(|sig| is_float(&sig.resume));
+        let declared = [
+            parameter.map(|slot| Op::GetLocal(slot as u16)),
+            native.map(|native| Op::CallExternalNative(native as u16, 0)),
+            callee.map(|callee| Op::Call(callee as u16, 0)),
+            resumed.map(|_| Op::Yield),
+        ];
+        let sources: Vec<Op> = declared.into_iter().flatten().chain([constant]).collect();
+        let op = self.random.pick(&sources);
+        if op == Op::Yield {
+            self.emit_push();
+        }
+        self.emit(op);
+    }
+
+    /// An operand of kind 5, used as no scalar may be.
+    fn use_of_kind_5(&mut self) {
+        self.emit_of_kind_5();
+        match self.random.below(4) {
+            0 | 1 => self.emit_read(),
+            2 => {
+                self.emit(Op::PushImmediate(0));
+                let op = self.index();
+                self.emit(op);
+            }
+            _ => {
+                self.emit(Op::Dup);
+                self.emit_composite_with_kind_5();
+                let op = self.text_read();
+                self.emit(op);
+            }
+        }
+    }
+
+    /// Makes the two top operands a composite of any size, or of that which they would have if floats had 8 bytes.
+    fn emit_composite_with_kind_5(&mut self) {
+        if self.random.chance(40) {
+            return self.emit_composite(2);
+        }
+        let kind = self.random.pick(&[CompositeKind::Tuple, CompositeKind::Struct, CompositeKind::Array]);
+        self.emit(Op::NewComposite(NewCompositeOperand::Flat { kind, count: 2, byte_size: 16 }));
     }
 
     pub(super) fn emit_push(&mut self) {
@@ -273,7 +328,10 @@ impl Builder<'_> {
             _ => params.len(),
         };
         for position in 0..count {
-            match params.get(position).map_or(Shape::Unknown, Shape::declared) {
+            let param = params.get(position);
+            match param.map_or(Shape::Unknown, |wire| Shape::declared(wire, self.widths())) {
+                // Without floats anything passes for a float.
+                Shape::Unknown if param == Some(&WireShape::Scalar { kind: FLOAT_TAG }) => self.build(2),
                 Shape::Unknown => self.emit_push(),
                 Shape::Scalar(_) => self.emit_scalar(),
                 Shape::Composite { kind, size, .. } => self.body_of(kind, size),
@@ -286,7 +344,8 @@ impl Builder<'_> {
     /// A value that almost fits a parameter, or fits it.
     pub(super) fn emit_near_parameter(&mut self, chunk: usize, position: usize) {
         let sig = self.listing.module.signatures.get(chunk);
-        match sig.and_then(|sig| sig.params.get(position)).map_or(Shape::Unknown, Shape::declared) {
+        let param = sig.and_then(|sig| sig.params.get(position));
+        match param.map_or(Shape::Unknown, |wire| Shape::declared(wire, self.widths())) {
             Shape::Composite { kind, size, .. } if self.random.chance(70) => {
                 let kind = if self.random.chance(40) { self.composite_kind() } else { kind };
                 let size = size.saturating_add(u32::from(self.random.chance(25)));

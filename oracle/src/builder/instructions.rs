@@ -1,7 +1,7 @@
 //! Single instructions, proposed for what is on the stack.
 
 use super::Builder;
-use crate::bytecode::{ArrayElem, ConstValue, EnumField, NewCompositeOperand, Op, StructField, TupleField};
+use crate::bytecode::{ArrayElem, ConstValue, EnumField, FLOAT_TAG, NewCompositeOperand, Op, StructField, TupleField};
 use crate::limits::Shape;
 use crate::value_layout::{CompositeKind, ScalarKind};
 
@@ -17,7 +17,7 @@ const BARE: [Op; 31] = [
 impl Builder<'_> {
     /// A constant of a kind, from the pool or new in it.
     pub(super) fn constant(&mut self, tag: u8) -> Op {
-        let value = ConstValue::from_tag(tag).unwrap_or(ConstValue::Other);
+        let value = ConstValue::from_tag(tag).expect("a constant has this kind");
         let known = self.chunk.constants.iter().position(|constant| *constant == value);
         let index = known.unwrap_or_else(|| {
             self.chunk.constants.push(value);
@@ -29,7 +29,8 @@ impl Builder<'_> {
     /// A push of a scalar whose kind is known; texts come often.
     pub(super) fn scalar(&mut self) -> Op {
         let tag = self.random.pick(&[0, 1, 2, 3, 3, 4, 5, 6, 6, 6]);
-        self.constant(tag)
+        // Where there are no floats, a constant of kind 5 is no scalar that is known.
+        self.constant(self.widths().known(tag).map_or(3, |kind| kind.to_tag()))
     }
 
     /// Any push.
@@ -38,6 +39,7 @@ impl Builder<'_> {
             0..=2 => self.scalar(),
             3..=5 => Op::GetLocal(self.local()),
             6 => Op::GetData(self.random.long()),
+            7 if !self.has_floats() && self.random.chance(70) => self.constant(FLOAT_TAG),
             7 => self.constant(255),
             8 => Op::Const(self.random.word()),
             _ => Op::PushImmediate(self.random.byte()),
@@ -99,7 +101,8 @@ impl Builder<'_> {
 
     pub(super) fn scalar_kind(&mut self) -> ScalarKind {
         let tag = if self.random.chance(30) { 6 } else { self.random.below(8) as u8 };
-        ScalarKind::from_tag(tag).expect("tags 0 to 7 are known")
+        // Of the tags 0 to 7 the listing may lack one, which the last of them stands in for.
+        self.widths().known(tag).unwrap_or(ScalarKind::Opaque)
     }
 
     pub(super) fn composite_kind(&mut self) -> CompositeKind {
