@@ -63,7 +63,8 @@ fn long(random: &mut Random, mut listing: Listing) -> Vec<u8> {
 fn full_table(random: &mut Random, listing: &mut Listing, scope: Scope) {
     let more = random.below(2);
     let (slots, entries) = (MAX_SLOTS + more, MAX_ENTRIES + more);
-    match random.below(10) {
+    // In twins the instructions come more often.
+    match random.below(if scope.twin.is_some() { 12 } else { 10 }) {
         0 => listing.layout_mut().slots = vec![DataSlot { visibility: SlotVisibility::Private }; slots],
         1 => {
             let layout = listing.layout_mut();

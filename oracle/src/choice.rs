@@ -35,7 +35,7 @@ impl Class {
 }
 
 /// The table that a listing overfills.
-fn overfull(bytes: &[u8]) -> &'static str {
+pub fn overfull(bytes: &[u8]) -> &'static str {
     let tables = [
         ("(slot ", MAX_SLOTS),
         ("(shared ", MAX_SLOTS),

@@ -75,6 +75,16 @@ impl Shape {
         }
     }
 
+    /// Whether both are composites, of one size but not of one kind.
+    fn has_other_kind_in_size_of(&self, other: &Shape) -> bool {
+        let (Shape::Composite { kind, size, .. }, Shape::Composite { kind: other_kind, size: other_size, .. }) =
+            (self, other)
+        else {
+            return false;
+        };
+        kind != other_kind && size == other_size
+    }
+
     fn places(&self) -> Option<&[u32]> {
         match self {
             Shape::Composite { places: Some(places), .. } => Some(places),
@@ -635,6 +645,9 @@ impl<'a> Walk<'a> {
         let pairs = || a.iter().zip(b);
         if pairs().any(|(a, b)| a != b && a.places().is_some() && matches!(a.join(b), Shape::Composite { .. })) {
             self.notes.count("text places joined away");
+        }
+        if pairs().any(|(a, b)| a.has_other_kind_in_size_of(b)) {
+            self.notes.count("composites of one size and different kinds joined");
         }
         pairs().map(|(a, b)| a.join(b)).collect()
     }

@@ -6,9 +6,10 @@ use crate::bytecode::{
     ArrayElem, Chunk, ChunkSignature, EnumField, NewCompositeOperand, Op, SHARED_SLOT_COMPOSITE_FLAG, StructField,
     TupleField, WireShape,
 };
+use crate::choice;
 use crate::generator::{self, Size};
 use crate::limits::{Mark, Notes, Shape, Widths};
-use crate::listing::{self, Listing, MAX_LOCALS};
+use crate::listing::{self, Listing, MAX_CONSTANTS, MAX_ENTRIES, MAX_LOCALS, MAX_OPS, MAX_PARAMS, MAX_SLOTS};
 use crate::refusal::Refusal;
 use crate::{nesting, twins, whole};
 use std::collections::{BTreeMap, BTreeSet};
@@ -23,6 +24,8 @@ pub struct Survey {
     most_instructions: usize,
     answers: BTreeMap<String, u64>,
     ops: BTreeMap<String, u64>,
+    /// Tables that were exactly full, and tables with one line more.
+    tables: BTreeMap<String, u64>,
     notes: Notes,
     /// Listings for which the two walks differ, or that are not written as they were read.
     pub faults: Vec<String>,
@@ -50,7 +53,12 @@ impl Survey {
         }
         let listing = match read {
             Ok(listing) => listing,
-            Err(refusal) => return self.count_refusal(&refusal),
+            Err(refusal) => {
+                if refusal.passed_limit() == Some(2) {
+                    count(&mut self.tables, &overfull(choice::overfull(bytes)));
+                }
+                return self.count_refusal(&refusal);
+            }
         };
         if listing::write(&listing).as_bytes() != bytes {
             self.faults.push(format!("listing {number} is not written as it was read"));
@@ -96,6 +104,12 @@ impl Survey {
     fn count_ops(&mut self, listing: &Listing) {
         for op in listing.ops() {
             count(&mut self.ops, &form_of(op));
+        }
+        for table in full_tables(listing) {
+            count(&mut self.tables, &full(table));
+        }
+        if listing.module.chunks.iter().any(has_backward_target) {
+            self.notes.count("backward target");
         }
     }
 
@@ -145,7 +159,8 @@ impl Survey {
         let answers = self.answers.keys().cloned();
         let met = self.notes.counts.keys().map(|what| what.to_string());
         let passes = self.notes.passes.keys().copied().map(loop_with);
-        answers.chain(self.ops.keys().cloned()).chain(met).chain(passes).collect()
+        let counted = self.ops.keys().chain(self.tables.keys()).cloned();
+        answers.chain(counted).chain(met).chain(passes).collect()
     }
 
     /// Instructions that the walk examined, on all passes.
@@ -172,6 +187,7 @@ impl Survey {
         let rows = |counts: &BTreeMap<String, u64>| counts.iter().map(|(key, n)| (key.clone(), *n)).collect();
         table("answers", rows(&self.answers));
         table("ops and operand forms in listings that read", rows(&self.ops));
+        table("tables", rows(&self.tables));
         table("met by the walk", self.notes.counts.iter().map(|(key, n)| (key.to_string(), *n)).collect());
         table("loops by passes", self.notes.passes.iter().map(|(key, n)| (key.to_string(), *n)).collect());
         out
@@ -187,6 +203,46 @@ pub fn count(counts: &mut BTreeMap<String, u64>, key: &str) {
     }
 }
 
+/// The tables, each by what its lines begin with; the parameters stand in one line.
+const TABLES: [&str; 10] =
+    ["(slot ", "(shared ", "(private ", "(enum ", "(native ", "(sig ", "parameters", "(chunk ", "(const ", "(op "];
+
+/// Those that have all the lines that there is room for.
+fn full_tables(listing: &Listing) -> impl Iterator<Item = &'static str> {
+    let (module, layout) = (&listing.module, listing.layout());
+    let is_full = [
+        layout.slots.len() == MAX_SLOTS,
+        layout.shared_layout.len() == MAX_SLOTS,
+        layout.private_composite_layout.len() == MAX_SLOTS,
+        module.enum_layouts.len() == MAX_ENTRIES,
+        module.native_return_shapes.len() == MAX_ENTRIES,
+        module.signatures.len() == MAX_ENTRIES,
+        module.signatures.iter().any(|sig| sig.params.len() == MAX_PARAMS),
+        module.chunks.len() == MAX_ENTRIES,
+        module.chunks.iter().map(|chunk| chunk.constants.len()).sum::<usize>() == MAX_CONSTANTS,
+        listing.ops().count() == MAX_OPS,
+    ];
+    TABLES.into_iter().zip(is_full).filter_map(|(table, is_full)| is_full.then_some(table))
+}
+
+fn full(table: &str) -> String {
+    format!("full: {}", table.trim_matches(['(', ' ']))
+}
+
+fn overfull(table: &str) -> String {
+    format!("one too many: {}", table.trim_matches(['(', ' ']))
+}
+
+/// Whether an opener, an Else or a break names an instruction that is not after it.
+fn has_backward_target(chunk: &Chunk) -> bool {
+    chunk.ops.iter().enumerate().any(|(ip, op)| match op {
+        Op::If(target) | Op::Else(target) | Op::Loop(target) | Op::Break(target) | Op::BreakIf(target) => {
+            usize::from(*target) <= ip
+        }
+        _ => false,
+    })
+}
+
 fn loop_with(passes: usize) -> String {
     format!("loop with {passes} passes")
 }
@@ -198,8 +254,10 @@ pub fn wanted(size: Size) -> Vec<String> {
     wanted.push("left out: names of floats with F 0".to_string());
     wanted.extend(wanted_forms());
     wanted.extend(WANTED_NOTES.iter().chain(twins::PLACES).map(|what| what.to_string()));
+    // A small listing has not the bytes for tables of many lines, nor for two arms with a composite each.
     if size == Size::Any {
-        wanted.push(twins::PLACE_PAST_THE_OPS.to_string());
+        wanted.extend([twins::PLACE_PAST_THE_OPS, OTHER_KINDS_JOINED].map(String::from));
+        wanted.extend(TABLES.into_iter().flat_map(|table| [full(table), overfull(table)]));
     }
     // LOCALS widenings, and the pass that finds all stable.
     let most_passes = if size == Size::Small { 3 } else { usize::from(MAX_LOCALS) + 1 };
@@ -264,12 +322,16 @@ fn wanted_forms() -> Vec<String> {
     wanted
 }
 
+/// One that small listings seldom have.
+const OTHER_KINDS_JOINED: &str = "composites of one size and different kinds joined";
+
 const WANTED_NOTES: &[&str] = &[
     "10 between arms",
     "10 between breaks",
     "11 where 10 would follow",
     "12 where 5 would follow",
     "13 past the locals",
+    "backward target",
     "blind index",
     "blind read",
     "body's end after a loop",
