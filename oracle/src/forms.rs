@@ -4,7 +4,7 @@
 
 use crate::bytecode::{Chunk, Op};
 use crate::form::Cursor;
-use crate::listing::{MAX_BYTES, MAX_CONSTANTS, MAX_ENTRIES, MAX_SLOTS};
+use crate::listing::{MAX_BYTES, MAX_CONSTANTS, MAX_ENTRIES, MAX_OPS, MAX_SLOTS};
 use crate::verify::op_depth_effect;
 use std::collections::BTreeSet;
 
@@ -15,6 +15,7 @@ pub fn listings() -> Vec<Vec<u8>> {
     texts.extend(cuts());
     texts.extend(full_tables());
     texts.extend(about_one_sentence());
+    texts.extend(twins());
     for form in op_forms() {
         texts.extend(form.ranges());
         texts.extend(form.needs());
@@ -188,6 +189,8 @@ const IN_CHUNK: &str = include_str!("forms/in_chunk");
 const CHUNKS: &str = include_str!("forms/chunks");
 /// Modules but for their first and last lines.
 const MODULES: &str = include_str!("forms/modules");
+/// Likewise, about kind 5.
+const TWINS: &str = include_str!("forms/twins");
 
 /// A table's lines. `\t`, `\r` and `\0` stand for the bytes that they name, and `\n` for an LF within the line.
 fn table(text: &'static str) -> impl Iterator<Item = String> {
@@ -212,6 +215,20 @@ fn about_one_sentence() -> Vec<String> {
         format!("(module 8 4 4 0 0 8 9\n(chunk 2\n(const 6)\n(const 3)\n(const 2)\n{lines})\n)\n")
     });
     chunks.chain(table(MODULES).map(|module| format!("{HEAD}{module}\n)\n"))).collect()
+}
+
+/// Modules about kind 5, each with F 0 and with F 8.
+fn twins() -> Vec<String> {
+    let bodies: Vec<String> = table(TWINS).chain(ops_of_kind_5_past_the_last()).collect();
+    bodies.iter().flat_map(|body| [0, 8].map(|f| format!("(module 8 {f} 6 100 0 8 9\n{body}\n)\n"))).collect()
+}
+
+/// As many instructions as there is room for, and then one of kind 5.
+fn ops_of_kind_5_past_the_last() -> impl Iterator<Item = String> {
+    let full = "(op Add)\n".repeat(MAX_OPS);
+    ["GetField Flat 0", "GetTupleField Flat 5", "GetIndex Flat"]
+        .into_iter()
+        .map(move |op| format!("(chunk 0\n{full}(op {op} 5)\n)"))
 }
 
 /// Each table with all that it has room for, and with one more. The instructions are too many bytes to be here: generated

@@ -22,6 +22,8 @@ pub struct Survey {
     listings: u64,
     bytes: u64,
     most_instructions: usize,
+    /// Listings with F 0 whose answer is the original's without floats.
+    without_floats: u64,
     answers: BTreeMap<String, u64>,
     ops: BTreeMap<String, u64>,
     /// Tables that were exactly full, and tables with one line more.
@@ -86,6 +88,7 @@ impl Survey {
             Answer::BeyondNames => count(&mut self.answers, "left out: names of floats with F 0"),
             Answer::BeyondLimit(limit) => count(&mut self.answers, &format!("left out: limit {limit}")),
             original => {
+                self.without_floats += u64::from(listing.float_bytes == 0);
                 if original != own {
                     self.faults.push(format!("listing {number}: the original answers {original}, limits.rs {own}"));
                 }
@@ -178,6 +181,7 @@ impl Survey {
     pub fn report(&self) -> String {
         let mut out =
             format!("listings {}, bytes {}, most instructions {}\n", self.listings, self.bytes, self.most_instructions);
+        out.push_str(&format!("answered by the original without floats {}\n", self.without_floats));
         let mut table = |title: &str, rows: Vec<(String, u64)>| {
             out.push_str(&format!("\n{title}\n"));
             for (key, times) in rows {
