@@ -143,6 +143,6 @@ fn wanted(class: &Class) -> usize {
         Class::Accepted(MAX_OPS) | Class::Overfull(_) => 1,
         Class::Accepted(_) => 2,
         Class::Refused(kind) if kind == "refused  2, limit 1" => 1,
-        Class::Refused(_) => 13,
+        Class::Refused(_) => 12,
     }
 }
