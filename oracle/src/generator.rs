@@ -60,7 +60,7 @@ pub fn listing(seed: u64, number: u64, size: Size) -> Vec<u8> {
     }
 }
 
-/// Listing `number` of a seed where all have floats.
+/// Listing `number` of a seed where all are built with floats.
 pub fn listing_with_floats(seed: u64, number: u64, size: Size) -> Vec<u8> {
     let mut random = Random::new(seed, number);
     let is_damaged = random.chance(22);
