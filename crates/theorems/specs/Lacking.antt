@@ -1,0 +1,246 @@
+-- 02, S-1: "Then kind 5 has no width". No shape that the walk holds is a scalar of a kind that the module lacks, so no width of it is asked for.
+use mathlib.Core.Path.{_≡_, refl, sym, ap, _∙_, subst}
+use mathlib.Core.Bool.{Bool, true, false, not, _&&_, _||_}
+use mathlib.Core.Option.{Option, none, some}
+use mathlib.Core.List.{List, [], _∷_, _++_, map}
+use Prim.Native.Nat.{ℕ, zero, suc}
+use lib.ListN.{length, getD, getElem?, drop, set, replicate}
+use native.Mathlib.Omega.{arith}
+use lib.Dec.{leb, eqb}
+use Rattle.definition.specs.Basics.{choose, ok}
+use Rattle.definition.specs.Shapes.{Shape, unknown, scalar, composite, is-lacking, same-text, if-same, join-text, join, join-all}
+use Rattle.definition.specs.Shapes.{Wire, top, scalarW, flatW, top-if, known-wire, from-wire}
+use Rattle.definition.specs.Instructions.{instr-at, Instr, Shaped, Sig, Chunk, Field, Elem}
+use Rattle.definition.specs.Ops.{instr, Op, named-kind, has-kind}
+use Rattle.definition.specs.Module.{Code, Header, Module, known-sig, known-const, no-sig, under-check}
+use Rattle.definition.specs.Effects.{Pushed, exact, declared, shape-of, effect, const-shape, returned, returned-native, ints, with-bounds, with-flag}
+use Rattle.definition.specs.Effects.{shaped-pushes, pushes, takes, set-top, set-local, write}
+use Rattle.definition.specs.Walk.{State, with-locals, join-states, after, start-locals, params, start, forget-one, names-local, forget}
+use Rattle.theorems.specs.Each.{Each, nobody, both, each-both, each-drop, each-set, each-get}
+use Rattle.theorems.specs.Cover.{no-some}
+use Rattle.theorems.specs.Fits.{Has-kind}
+
+module _ (float : ℕ) where
+  -- no scalar of a kind that is lacking
+  abbrev pub Had : Shape → Type 0
+  Had unknown = Unit {0}
+  Had (scalar k) = is-lacking float k ≡ false
+  Had (composite k n t) = Unit {0}
+
+  had-if : (t : Bool) (s : Shape) → Had s → Had (if-same t s)
+  unfolding if-same
+  had-if true s h = h
+  had-if false s h = tt
+
+  had-join : (a b : Shape) → Had a → Had (join a b)
+  unfolding join
+  had-join unknown b h = tt
+  had-join (scalar j) unknown h = tt
+  had-join (scalar j) (scalar k) h = had-if (eqb j k) (scalar j) h
+  had-join (scalar j) (composite k n t) h = tt
+  had-join (composite j m s) unknown h = tt
+  had-join (composite j m s) (scalar k) h = tt
+  had-join (composite j m s) (composite k n t) h = had-if (eqb j k && eqb m n) (composite j m (join-text s (same-text s t))) tt
+
+  -- no kind but 5 is lacking
+  had-small : (k : ℕ) → eqb k 5 ≡ false → Had (scalar k)
+  unfolding is-lacking
+  had-small k e = go (eqb float 0) (eqb k 5) e
+    where
+      go : (a b : Bool) → b ≡ false → (a && b) ≡ false
+      go true b e = e
+      go false b e = refl
+
+  -- ── What a chunk's shapes are made of ─────────────────────────────────────────────────────
+
+  had-scalar : (k : ℕ) → Had (from-wire (top-if (is-lacking float k) (scalarW k)))
+  unfolding top-if from-wire
+  had-scalar k = go (is-lacking float k) refl
+    where
+      go : (b : Bool) → is-lacking float k ≡ b → Had (from-wire (top-if b (scalarW k)))
+      go true e = tt
+      go false e = had-if (leb k 7) (scalar k) e
+
+  had-wire : (w : Wire) → Had (from-wire (known-wire float w))
+  unfolding known-wire from-wire
+  had-wire top = tt
+  had-wire (scalarW k) = had-scalar k
+  had-wire (flatW k n) = had-if (leb k 3) (composite k n none) tt
+
+  had-const : (k : ℕ) → Had (if-same (leb (known-const float k) 6) (scalar (known-const float k)))
+  unfolding known-const choose if-same
+  had-const k = go (is-lacking float k) refl
+    where
+      go : (b : Bool) → is-lacking float k ≡ b → Had (if-same (leb (choose b 255 k) 6) (scalar (choose b 255 k)))
+      go true e = tt
+      go false e = had-if (leb k 6) (scalar k) e
+
+  had-kind : (k : ℕ) → has-kind float (some k) ≡ true → Had (scalar k)
+  unfolding has-kind
+  had-kind k e = go (is-lacking float k) e
+    where
+      go : (b : Bool) → not b ≡ true → b ≡ false
+      go true e = absurd (let z : _≡_ {A = ℕ} 0 1 = cc in omega arith)
+      go false e = refl
+
+  -- Every shape that a chunk declares, and every constant's, is had.
+  pub record Known (c : Chunk) : Type 0 where
+    pub natives : (j : ℕ) → Had (shape-of (returned-native (getElem? (c .natives) j)))
+    pub results : (j : ℕ) → Had (shape-of (returned (getElem? (c .sigs) j)))
+    pub resume : Had (from-wire (c .sig .resume))
+    pub params : Each Had (start-locals (c .locals) (params c))
+    pub consts : (j : ℕ) → Had (const-shape (getElem? (c .consts) j))
+
+  had-native : (ws : List Wire) (j : ℕ) → Had (shape-of (returned-native (getElem? (map (known-wire float) ws) j)))
+  unfolding returned-native shape-of
+  had-native [] j = tt
+  had-native (w ∷ ws) zero = had-wire w
+  had-native (w ∷ ws) (suc j) = had-native ws j
+
+  had-result : (gs : List Sig) (j : ℕ) → Had (shape-of (returned (getElem? (map (known-sig float) gs) j)))
+  unfolding returned shape-of known-sig
+  had-result [] j = tt
+  had-result (g ∷ gs) zero = had-wire (g .ret)
+  had-result (g ∷ gs) (suc j) = had-result gs j
+
+  had-constant : (ks : List ℕ) (j : ℕ) → Had (const-shape (getElem? (map (known-const float) ks) j))
+  unfolding const-shape
+  had-constant [] j = tt
+  had-constant (k ∷ ks) zero = had-const k
+  had-constant (k ∷ ks) (suc j) = had-constant ks j
+
+  had-params : (n : ℕ) (ws : List Wire) → Each Had (start-locals n (map from-wire (map (known-wire float) ws)))
+  unfolding start-locals
+  had-params zero ws = nobody
+  had-params (suc n) [] = both tt (had-params n [])
+  had-params (suc n) (w ∷ ws) = both (had-wire w) (had-params n ws)
+
+  -- ── One instruction ───────────────────────────────────────────────────────────────────────
+
+  had-joins : {l : List Shape} (m : List Shape) → Each Had l → Each Had (join-all l m)
+  unfolding join-all
+  had-joins m nobody = nobody
+  had-joins [] (both x r) = nobody
+  had-joins (y ∷ ys) (both {x = s} x r) = both (had-join s y x) (had-joins ys r)
+
+  had-unknowns : (n : ℕ) → Each Had (map shape-of (replicate n (exact unknown)))
+  unfolding shape-of
+  had-unknowns zero = nobody
+  had-unknowns (suc n) = both tt (had-unknowns n)
+
+  had-ints : (n : ℕ) (ps : List Pushed) → Each Had (map shape-of ps) → Each Had (map shape-of (ints n ++ ps))
+  unfolding shape-of
+  had-ints zero ps h = h
+  had-ints (suc n) ps h = both (had-small 3 refl) (had-ints n ps h)
+
+  only-ints : (n : ℕ) → Each Had (map shape-of (ints n))
+  unfolding shape-of
+  only-ints zero = nobody
+  only-ints (suc n) = both (had-small 3 refl) (only-ints n)
+
+  had-bounds : (t : Bool) (p : Pushed) → Had (shape-of p) → Each Had (map shape-of (with-bounds t p))
+  unfolding with-bounds
+  had-bounds true p h = had-ints 6 (p ∷ []) (both h nobody)
+  had-bounds false p h = both h nobody
+
+  had-flag : (t : Bool) (p : Pushed) → Had (shape-of p) → Each Had (map shape-of (with-flag t p))
+  unfolding with-flag
+  had-flag true p h = had-ints 1 (p ∷ []) (both h nobody)
+  had-flag false p h = both h nobody
+
+  module _ (c : Chunk) (K : Known c) where
+    had-shaped : (i : Shaped) (st ls : List Shape) → Each Had st → Each Had ls → Each Had (map shape-of (shaped-pushes c i st ls))
+    unfolding shaped-pushes shape-of
+    had-shaped (Shaped.Const k) st ls x y = both (K .consts k) nobody
+    had-shaped (Shaped.GetLocal k) st ls x y = both (each-get k unknown y tt) nobody
+    had-shaped (Shaped.BoundsCheck k) st ls x y = only-ints 5
+    had-shaped (Shaped.IsStruct k) st ls x y = both (had-small 1 refl) nobody
+    had-shaped (Shaped.GetDataIndexed a b) st ls x y = had-ints 6 (exact unknown ∷ []) (both tt nobody)
+    had-shaped (Shaped.SetDataIndexed a b) st ls x y = only-ints 6
+    had-shaped (Shaped.Native k n) st ls x y = had-flag (leb 128 n) (returned-native (getElem? (c .natives) k)) (K .natives k)
+    had-shaped (Shaped.IsEnum a b d) st ls x y = both (had-small 1 refl) nobody
+    had-shaped Shaped.Dup st ls x y = both (each-get 0 unknown x tt) nobody
+    had-shaped Shaped.Yield st ls x y = both (K .resume) nobody
+    had-shaped Shaped.IndexBoxed st ls x y = had-bounds true (exact unknown) tt
+
+    had-pushes : (i : Instr) (st ls : List Shape) → has-kind float (named-kind i) ≡ true → Each Had st → Each Had ls
+        → Each Had (map shape-of (pushes c i st ls))
+    unfolding pushes named-kind shape-of
+    had-pushes (Instr.plain p a) st ls e x y = had-unknowns (effect p .1)
+    had-pushes (Instr.shaped i) st ls e x y = had-shaped i st ls x y
+    had-pushes (Instr.jump j) st ls e x y = nobody
+    had-pushes (Instr.PopN n) st ls e x y = nobody
+    had-pushes (Instr.SetLocal k) st ls e x y = nobody
+    had-pushes (Instr.Call k n) st ls e x y = both (K .results k) nobody
+    had-pushes (Instr.NewFlat k n s) st ls e x y = both tt nobody
+    had-pushes (Instr.NewBoxed k n m) st ls e x y = both tt nobody
+    had-pushes (Instr.GetFlat o (Field.Flat at k)) st ls e x y = both (had-kind k e) nobody
+    had-pushes (Instr.GetFlat o (Field.FlatNested at n k)) st ls e x y = both tt nobody
+    had-pushes (Instr.GetBoxed o n) st ls e x y = both tt nobody
+    had-pushes (Instr.GetIndex (Elem.ElemFlat k)) st ls e x y = had-bounds (eqb k 2 || eqb k 3) (exact (scalar k)) (had-kind k e)
+    had-pushes (Instr.GetIndex (Elem.ElemNested n k)) st ls e x y = had-bounds true _ tt
+
+  had-write : (o : Option ℕ) (st ls : List Shape) → Each Had st → Each Had ls → Each Had (write o st ls)
+  unfolding write set-top
+  had-write none st ls x y = y
+  had-write (some k) [] ls x y = y
+  had-write (some k) (s ∷ st) ls (both h r) y = each-set k s y h
+
+  -- ── States ────────────────────────────────────────────────────────────────────────────────
+
+  pub record Had-state (s : State) : Type 0 where
+    pub stack : Each Had (s .stack)
+    pub locals : Each Had (s .locals)
+
+  pub had-start : (c : Chunk) → Known c → Had-state (start c)
+  unfolding start
+  had-start c K = record { stack = nobody; locals = K .params }
+
+  pub had-after : (c : Chunk) (i : Instr) (s : State) → Known c → has-kind float (named-kind i) ≡ true → Had-state s → Had-state (after c i s)
+  unfolding after
+  had-after c i s K e h =
+      record {
+        stack = each-both (had-pushes c K i (s .stack) (s .locals) e (h .stack) (h .locals)) (each-drop (takes c i) (h .stack));
+        locals = had-write (set-local i) (s .stack) (s .locals) (h .stack) (h .locals);
+      }
+
+  pub had-joined : (a b : State) → Had-state a → Had-state (join-states a b)
+  had-joined a b h = record { stack = had-joins (b .stack) (h .stack); locals = had-joins (b .locals) (h .locals) }
+
+  -- from a head to the next: its locals joined with others, or forgotten
+  pub had-widen : (s : State) (ls : List Shape) → Had-state s → Had-state (with-locals s (join-all (s .locals) ls))
+  had-widen s ls h = record { stack = h .stack; locals = had-joins ls (h .locals) }
+
+  forget-had : (c : Chunk) (p n : ℕ) (ls : List Shape) → Each Had ls → Each Had (forget c p n ls)
+  unfolding forget forget-one
+  forget-had c p zero ls h = h
+  forget-had c p (suc n) ls h = forget-had c (suc p) n (forget-one (names-local (instr-at c p)) ls) (one (names-local (instr-at c p)) h)
+    where
+      one : (o : Option ℕ) {ls : List Shape} → Each Had ls → Each Had (forget-one o ls)
+      one none h = h
+      one (some k) h = each-set k unknown h tt
+
+  pub had-forget : (c : Chunk) (p n : ℕ) (s : State) → Had-state s → Had-state (with-locals s (forget c p n (s .locals)))
+  had-forget c p n s h = record { stack = h .stack; locals = forget-had c p n (s .locals) (h .locals) }
+
+-- ── A module ──────────────────────────────────────────────────────────────────────────────
+
+-- A chunk as the walk takes it.
+pub chunk-known : (m : Module) (k base : ℕ) (c : Code) → Known (m .header .float) (under-check m k base c)
+unfolding under-check params known-sig
+chunk-known m k base c =
+    let f : ℕ = m .header .float in
+    record {
+      natives = had-native f (m .natives);
+      results = had-result f (m .sigs);
+      resume = had-wire f (getD (m .sigs) k no-sig .resume);
+      params = had-params f (c .locals) (getD (m .sigs) k no-sig .params);
+      consts = had-constant f (c .consts);
+    }
+
+-- Its instructions, where those of its listing name no kind that the module lacks (`read-fits`).
+pub code-had : (h : Header) (os : List Op) (p : ℕ) (i : Instr) → Each (Has-kind h) os → getElem? (map instr os) p ≡ some i
+    → has-kind (h .float) (named-kind i) ≡ true
+code-had h [] p i e q = absurd (no-some (sym q))
+code-had h (o ∷ os) zero i (both x e) q = subst (λ (z : Instr). has-kind (h .float) (named-kind z) ≡ true) (let z : instr o ≡ i = cc in z) x
+code-had h (o ∷ os) (suc p) i (both x e) q = code-had h os p i e q
