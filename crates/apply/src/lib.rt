@@ -26,7 +26,7 @@ ghost use Rattle.definition.specs.Effects.{need, packed};
 ghost use Rattle.definition.specs.Tests.{is-blind, reading, size-test, args-test};
 ghost use Rattle.definition.specs.Walk.{examine};
 ghost use Rattle.value_layout.specs.Sizes.{Wide};
-ghost use Rattle.bytecode.specs.Meaning.{chunkOf, sigsOf, enum-sizesOf};
+ghost use Rattle.bytecode.specs.Meaning.{chunkOf, known-sigs, enum-sizesOf};
 ghost use Rattle.bytecode.specs.Parts.{instrOf, Effect-is};
 ghost use Rattle.frame.specs.Model.{valueAt, at, stateOf, stackOf, Long};
 ghost use Rattle.frame.specs.declared.State.{State};
@@ -111,7 +111,7 @@ fn check_args(
     ip: usize,
 ) -> Verdict
     requires { ⌜ Long (now slots) (now places) × (n ≤ height) × (height ≤ 64) ⌝ }
-    ensures { λ r. ⌜ refusal r ≡ args-test ip callee 0 (reverse (take n (stackOf (at height (now (slots .entry)) (now (places .entry)))))) (getD (sigsOf (now (t .entry))) callee no-sig .params) ⌝ }
+    ensures { λ r. ⌜ refusal r ≡ args-test ip callee 0 (reverse (take n (stackOf (at height (now (slots .entry)) (now (places .entry)))))) (getD (known-sigs (now (t .entry))) callee no-sig .params) ⌝ }
 {
     let k = rules::index(callee);
     let m = bytecode::least(n, bytecode::sig_params(t, k));
@@ -143,7 +143,7 @@ fn call(
     ip: usize,
 ) -> Rule
     requires { ⌜ Long (now slots) (now places) × (n ≤ height) × (height ≤ 64) ⌝ }
-    ensures { λ r. ⌜ ((c : Chunk) (locals : ℕ) → c .sigs ≡ sigsOf (now (t .entry)) → Rules c ip (Call callee n) (stateOf locals (at height (now (slots .entry)) (now (places .entry)))) r) ⌝ }
+    ensures { λ r. ⌜ ((c : Chunk) (locals : ℕ) → c .sigs ≡ known-sigs (now (t .entry)) → Rules c ip (Call callee n) (stateOf locals (at height (now (slots .entry)) (now (places .entry)))) r) ⌝ }
 {
     let verdict = check_args(t, slots, places, height, callee, n, ip);
     let x = rules::wire_value(bytecode::sig_return(t, rules::index(callee)));

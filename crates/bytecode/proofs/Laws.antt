@@ -20,9 +20,9 @@ use Rattle.definition.specs.Ops.{instr}
 use Rattle.bytecode.specs.Tables.{base, stride, row-at}
 use Rattle.bytecode.specs.Lists.{limited, limited-le, limited-same, limited-over, tabulate, tabulate-length, tabulate-some, tabulate-none, tabulate-at}
 use Rattle.bytecode.specs.Lists.{tabulate-past, tabulate-map}
-use Rattle.bytecode.specs.Meaning.{cell, count, wireOf, wire-of, instrAt, opAt, op-of, maxima-of, nativesOf, nativeAt, sigsOf, sigAt, params-at}
-use Rattle.bytecode.specs.Meaning.{enumsOf, enumAt, headerOf, chunkOf, codeOf, constAt, first-const, const-count, firstAt, endAt, count-low}
-use Rattle.bytecode.specs.Meaning.{first-low, end-low, enum-sizesOf, address-low, knownOf, listed-sigAt, listed-constAt, moduleOf}
+use Rattle.bytecode.specs.Meaning.{cell, count, wireOf, wire-of, instrAt, opAt, op-of, maxima-of, known-natives, known-nativeAt, known-sigs, known-sigAt, params-at}
+use Rattle.bytecode.specs.Meaning.{enumsOf, enumAt, headerOf, chunkOf, codeOf, known-constAt, first-const, const-count, firstAt, endAt, count-low}
+use Rattle.bytecode.specs.Meaning.{first-low, end-low, enum-sizesOf, address-low, knownOf, sigAt, constAt, moduleOf}
 use Rattle.bytecode.specs.Operands.{three-enough}
 use Rattle.bytecode.specs.Parts.{instrOf, Instr-is, sig-shape, Span-is, header-of, Widths-of}
 use Rattle.bytecode.specs.declared.Instr.{Instr}
@@ -94,21 +94,21 @@ instr-is t i at r e k a b d =
 -- ── Natives and signatures ────────────────────────────────────────────────────────────────
 
 module _ (t : List ℕ) (k : ℕ) where
-  pub native-in : k < count t 5 → from-wire (knownOf t (cell t 5 k 1)) ≡ shape-of (returned-native (getElem? (nativesOf t) k))
-  unfolding nativesOf nativeAt returned-native shape-of
-  native-in h = rw (tabulate-some 0 (count t 5) (nativeAt t) k h, zero-add k)
+  pub native-in : k < count t 5 → from-wire (knownOf t (cell t 5 k 1)) ≡ shape-of (returned-native (getElem? (known-natives t) k))
+  unfolding known-natives known-nativeAt returned-native shape-of
+  native-in h = rw (tabulate-some 0 (count t 5) (known-nativeAt t) k h, zero-add k)
 
-  pub native-out : count t 5 ≤ k → unknown ≡ shape-of (returned-native (getElem? (nativesOf t) k))
-  unfolding nativesOf returned-native shape-of
-  native-out h = rw (tabulate-none 0 (count t 5) (nativeAt t) k h)
+  pub native-out : count t 5 ≤ k → unknown ≡ shape-of (returned-native (getElem? (known-natives t) k))
+  unfolding known-natives returned-native shape-of
+  native-out h = rw (tabulate-none 0 (count t 5) (known-nativeAt t) k h)
 
-  sig-in : k < count t 6 → getD (sigsOf t) k no-sig ≡ sigAt t k
-  unfolding sigsOf
-  sig-in h = tabulate-at 0 (count t 6) (sigAt t) no-sig k h ∙ ap (sigAt t) (zero-add k)
+  sig-in : k < count t 6 → getD (known-sigs t) k no-sig ≡ known-sigAt t k
+  unfolding known-sigs
+  sig-in h = tabulate-at 0 (count t 6) (known-sigAt t) no-sig k h ∙ ap (known-sigAt t) (zero-add k)
 
-  sig-out : count t 6 ≤ k → getD (sigsOf t) k no-sig ≡ no-sig
-  unfolding sigsOf
-  sig-out h = tabulate-past 0 (count t 6) (sigAt t) no-sig k h
+  sig-out : count t 6 ≤ k → getD (known-sigs t) k no-sig ≡ no-sig
+  unfolding known-sigs
+  sig-out h = tabulate-past 0 (count t 6) (known-sigAt t) no-sig k h
 
   pub shape-in : (j : ℕ) → k < count t 6 → from-wire (knownOf t (cell t 6 k j)) ≡ sig-shape t k j
   unfolding sig-shape
@@ -118,38 +118,38 @@ module _ (t : List ℕ) (k : ℕ) where
   unfolding sig-shape
   shape-out j h = rw (sig-shape, le-ltb k (count t 6) h)
 
-  pub return-is : sig-shape t k 1 ≡ shape-of (returned (getElem? (sigsOf t) k))
-  unfolding sigsOf sigAt listed-sigAt knownOf known-sig returned shape-of
+  pub return-is : sig-shape t k 1 ≡ shape-of (returned (getElem? (known-sigs t) k))
+  unfolding known-sigs known-sigAt sigAt knownOf known-sig returned shape-of
   return-is = elim (decLt k (count t 6)) [
-    | yes p ↦ sym (shape-in 1 p) ∙ (rw (tabulate-some 0 (count t 6) (sigAt t) k p, zero-add k))
-    | no q ↦ sym (shape-out 1 (omega arith)) ∙ (rw (tabulate-none 0 (count t 6) (sigAt t) k (omega arith)))
+    | yes p ↦ sym (shape-in 1 p) ∙ (rw (tabulate-some 0 (count t 6) (known-sigAt t) k p, zero-add k))
+    | no q ↦ sym (shape-out 1 (omega arith)) ∙ (rw (tabulate-none 0 (count t 6) (known-sigAt t) k (omega arith)))
   ]
 
-  pub resume-is : sig-shape t k 2 ≡ from-wire (getD (sigsOf t) k no-sig .resume)
-  unfolding sigAt listed-sigAt knownOf known-sig no-sig from-wire
+  pub resume-is : sig-shape t k 2 ≡ from-wire (getD (known-sigs t) k no-sig .resume)
+  unfolding known-sigAt sigAt knownOf known-sig no-sig from-wire
   resume-is = elim (decLt k (count t 6)) [
     | yes p ↦ sym (shape-in 2 p) ∙ ap (λ (g : Sig). from-wire (g .resume)) (sym (sig-in p))
     | no q ↦ sym (shape-out 2 (omega arith)) ∙ ap (λ (g : Sig). from-wire (g .resume)) (sym (sig-out (omega arith)))
   ]
 
-  pub params-in : k < count t 6 → length (getD (sigsOf t) k no-sig .params) ≡ params-at t k
-  unfolding sigAt listed-sigAt known-sig
+  pub params-in : k < count t 6 → length (getD (known-sigs t) k no-sig .params) ≡ params-at t k
+  unfolding known-sigAt sigAt known-sig
   params-in h =
       ap (λ (g : Sig). length (g .params)) (sig-in h)
       ∙ length-map (tabulate 3 (params-at t k) (λ j. wireOf (cell t 6 k j))) (known-wire (headerOf t .float))
       ∙ tabulate-length 3 (params-at t k) (λ j. wireOf (cell t 6 k j))
 
-  pub params-out : count t 6 ≤ k → 0 ≡ length (getD (sigsOf t) k no-sig .params)
+  pub params-out : count t 6 ≤ k → 0 ≡ length (getD (known-sigs t) k no-sig .params)
   unfolding no-sig
   params-out h = sym (ap (λ (g : Sig). length (g .params)) (sig-out h))
 
-  pub params-few : k < count t 6 → cell t 6 k 0 < 2 → 0 ≡ length (getD (sigsOf t) k no-sig .params)
+  pub params-few : k < count t 6 → cell t 6 k 0 < 2 → 0 ≡ length (getD (known-sigs t) k no-sig .params)
   unfolding params-at
   params-few h l = sym (params-in h ∙ ap (limited 16) (let z : cell t 6 k 0 - 2 ≡ 0 = omega arith in z) ∙ limited-same 16 0 (omega arith))
 
   param-at : (j : ℕ) → k < count t 6 → j < params-at t k
-      → sig-shape t k (j + 3) ≡ getD (map from-wire (sigAt t k .params)) j unknown
-  unfolding sigAt listed-sigAt knownOf known-sig from-wire
+      → sig-shape t k (j + 3) ≡ getD (map from-wire (known-sigAt t k .params)) j unknown
+  unfolding known-sigAt sigAt knownOf known-sig from-wire
   param-at j h l =
       sym (shape-in (j + 3) h)
       ∙ ap (λ (m : ℕ). from-wire (knownOf t (cell t 6 k m))) (let e : j + 3 ≡ 3 + j = omega arith in e)
@@ -158,17 +158,17 @@ module _ (t : List ℕ) (k : ℕ) where
       ∙ ap (λ (ws : List Wire). getD (map from-wire ws) j unknown)
       (sym (tabulate-map (known-wire (headerOf t .float)) 3 (params-at t k) (λ i. wireOf (cell t 6 k i))))
 
-  pub param-is : (j : ℕ) → j < length (getD (sigsOf t) k no-sig .params)
-      → sig-shape t k (j + 3) ≡ getD (map from-wire (getD (sigsOf t) k no-sig .params)) j unknown
+  pub param-is : (j : ℕ) → j < length (getD (known-sigs t) k no-sig .params)
+      → sig-shape t k (j + 3) ≡ getD (map from-wire (getD (known-sigs t) k no-sig .params)) j unknown
   param-is j l = elim (decLt k (count t 6)) [
     | yes p ↦ param-at j p (omega (arith, params-in p)) ∙ ap (λ (g : Sig). getD (map from-wire (g .params)) j unknown) (sym (sig-in p))
     | no q ↦ absurd (omega (arith, params-out (omega arith)))
   ]
 
-  pub param-none : (j : ℕ) → length (getD (sigsOf t) k no-sig .params) ≤ j
-      → unknown ≡ getD (map from-wire (getD (sigsOf t) k no-sig .params)) j unknown
+  pub param-none : (j : ℕ) → length (getD (known-sigs t) k no-sig .params) ≤ j
+      → unknown ≡ getD (map from-wire (getD (known-sigs t) k no-sig .params)) j unknown
   param-none j l =
-      let ps : List Wire = getD (sigsOf t) k no-sig .params in
+      let ps : List Wire = getD (known-sigs t) k no-sig .params in
       let e : length (map from-wire ps) ≡ length ps = length-map ps from-wire in
       sym (List·getD-eq-default (map from-wire ps) unknown {n = j} (omega arith))
 
@@ -231,18 +231,18 @@ module _ (t : List ℕ) (table j k : ℕ) where
       record { first-is = p; count-is = omega arith; within = omega (arith, end-low t table j k, count-low t table) }
 
 module _ (t : List ℕ) (k p : ℕ) where
-  consts-known : chunkOf t k .consts ≡ tabulate (first-const t k) (const-count t k) (constAt t)
-  unfolding chunkOf under-check codeOf moduleOf constAt
-  consts-known = tabulate-map (known-const (headerOf t .float)) (first-const t k) (const-count t k) (listed-constAt t)
+  consts-known : chunkOf t k .consts ≡ tabulate (first-const t k) (const-count t k) (known-constAt t)
+  unfolding chunkOf under-check codeOf moduleOf known-constAt
+  consts-known = tabulate-map (known-const (headerOf t .float)) (first-const t k) (const-count t k) (constAt t)
 
-  pub const-in : (at : ℕ) → at ≡ first-const t k + p → p < const-count t k → some (constAt t at) ≡ getElem? (chunkOf t k .consts) p
+  pub const-in : (at : ℕ) → at ≡ first-const t k + p → p < const-count t k → some (known-constAt t at) ≡ getElem? (chunkOf t k .consts) p
   const-in at e h =
-      ap (λ (m : ℕ). some (constAt t m)) e
-      ∙ sym (tabulate-some (first-const t k) (const-count t k) (constAt t) p h)
+      ap (λ (m : ℕ). some (known-constAt t m)) e
+      ∙ sym (tabulate-some (first-const t k) (const-count t k) (known-constAt t) p h)
       ∙ ap (λ (l : List ℕ). getElem? l p) (sym consts-known)
 
   pub const-out : const-count t k ≤ p → none ≡ getElem? (chunkOf t k .consts) p
-  const-out h = sym (tabulate-none (first-const t k) (const-count t k) (constAt t) p h) ∙ ap (λ (l : List ℕ). getElem? l p) (sym consts-known)
+  const-out h = sym (tabulate-none (first-const t k) (const-count t k) (known-constAt t) p h) ∙ ap (λ (l : List ℕ). getElem? l p) (sym consts-known)
 
 -- ── Kinds that a module lacks ─────────────────────────────────────────────────────────────
 

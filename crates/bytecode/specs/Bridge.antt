@@ -22,9 +22,9 @@ use Rattle.bytecode.specs.Tables.{tables, cap, stride, row-at}
 use Rattle.bytecode.specs.Held.{Held, lists, held-count, cell-is, length-map, wire-word, slot-words, header-words, shared-words, private-words}
 use Rattle.bytecode.specs.Held.{one-word, native-words, sig-words, op-words, chunk-words, chunk-rows, header-rows}
 use Rattle.bytecode.specs.Lists.{limited, limited-same, tabulate, tabulate-list, All, all-at, map-at}
-use Rattle.bytecode.specs.Meaning.{cell, count, headerOf, slotAt, slot-of, sharedAt, privateAt, enumAt, wireOf, wire-of, listed-nativeAt, params-at}
-use Rattle.bytecode.specs.Meaning.{listed-sigAt, listed-constAt, maxima-of, operands-of, op-of, opAt, localsAt, firstAt, endAt, first-op, op-count, codeOf}
-use Rattle.bytecode.specs.Meaning.{slotsOf, sharedsOf, privatesOf, enumsOf, listed-natives, listed-sigs, moduleOf, chunkOf, chunksOf}
+use Rattle.bytecode.specs.Meaning.{cell, count, headerOf, slotAt, slot-of, sharedAt, privateAt, enumAt, wireOf, wire-of, nativeAt, params-at}
+use Rattle.bytecode.specs.Meaning.{sigAt, constAt, maxima-of, operands-of, op-of, opAt, localsAt, firstAt, endAt, first-op, op-count, codeOf}
+use Rattle.bytecode.specs.Meaning.{slotsOf, sharedsOf, privatesOf, enumsOf, nativesOf, sigsOf, moduleOf, chunkOf, chunksOf}
 use Rattle.bytecode.specs.Operands.{row-of}
 use Rattle.bytecode.specs.Fits.{WireFits, HeaderFits, SharedFits, PrivateFits, SigFits, Within, OpFits, ConstFits, EnumFits, CodeFits, ModuleFits}
 
@@ -186,17 +186,17 @@ module _ (t : List ℕ) (r : Reader) (h : Held t (lists r)) where
         ap (limited 4294967295) (word-of one-word (m .enums) 0 4 (omega arith) refl i 1 p (omega arith))
         ∙ limited-same 4294967295 (getD (m .enums) i 0) (all-at EnumFits 0 (m .enums) (fit .enums) i p))
 
-    natives-are : listed-natives t ≡ m .natives
-    unfolding m lists listed-natives listed-nativeAt native-words stride
+    natives-are : nativesOf t ≡ m .natives
+    unfolding m lists nativesOf nativeAt native-words stride
     natives-are =
-        listed native-words (m .natives) top 5 (omega arith) refl (listed-nativeAt t)
+        listed native-words (m .natives) top 5 (omega arith) refl (nativeAt t)
         (λ i p.
         ap wireOf (word-of native-words (m .natives) top 5 (omega arith) refl i 1 p (omega arith))
         ∙ wire-back (getD (m .natives) i top) (all-at WireFits top (m .natives) (fit .natives) i p))
 
     -- a signature's words back to it
-    sig-back : (i : ℕ) (g : Sig) → SigFits g → ((j : ℕ) → j < 19 → cell t 6 i j ≡ getD (sig-words g) j 0) → listed-sigAt t i ≡ g
-    unfolding listed-sigAt params-at sig-words
+    sig-back : (i : ℕ) (g : Sig) → SigFits g → ((j : ℕ) → j < 19 → cell t 6 i j ≡ getD (sig-words g) j 0) → sigAt t i ≡ g
+    unfolding sigAt params-at sig-words
     sig-back i g f e =
         let n : limited 16 (2 + length (g .params) - 2) ≡ length (g .params) =
         ap (limited 16) (let z : 2 + length (g .params) - 2 ≡ length (g .params) = omega arith in z) ∙ limited-same 16 (length (g .params)) (f .few) in
@@ -211,10 +211,10 @@ module _ (t : List ℕ) (r : Reader) (h : Held t (lists r)) where
         word-past : (j : ℕ) → getD (sig-words g) (3 + j) 0 ≡ getD (map wire-word (g .params)) j 0
         word-past j = ap (λ (k : ℕ). getD (sig-words g) k 0) (let z : 3 + j ≡ suc (suc (suc j)) = omega arith in z)
 
-    sigs-are : listed-sigs t ≡ m .sigs
-    unfolding m lists listed-sigs stride
+    sigs-are : sigsOf t ≡ m .sigs
+    unfolding m lists sigsOf stride
     sigs-are =
-        listed sig-words (m .sigs) no-sig 6 (omega arith) refl (listed-sigAt t)
+        listed sig-words (m .sigs) no-sig 6 (omega arith) refl (sigAt t)
         (λ i p.
         sig-back i (getD (m .sigs) i no-sig) (all-at SigFits no-sig (m .sigs) (fit .sigs) i p)
         (λ j l. word-of sig-words (m .sigs) no-sig 6 (omega arith) refl i j p l))
@@ -233,8 +233,8 @@ module _ (t : List ℕ) (r : Reader) (h : Held t (lists r)) where
     no-op = record { code = 0; operands = [] }
 
     consts-are : (i : ℕ) → i < length (all-consts (m .chunks)) → ConstFits (getD (all-consts (m .chunks)) i 0)
-        → listed-constAt t i ≡ getD (all-consts (m .chunks)) i 0
-    unfolding m lists listed-constAt one-word stride
+        → constAt t i ≡ getD (all-consts (m .chunks)) i 0
+    unfolding m lists constAt one-word stride
     consts-are i p f =
         ap (limited 255) (word-of one-word (all-consts (m .chunks)) 0 8 (omega arith) refl i 1 p (omega arith))
         ∙ limited-same 255 (getD (all-consts (m .chunks)) i 0) f
@@ -254,7 +254,7 @@ module _ (t : List ℕ) (r : Reader) (h : Held t (lists r)) where
 
     record From (k a b : ℕ) (cs : List Code) : Type 0 where
       row : (i j : ℕ) → i < length cs → j < 4 → cell t 7 (k + i) j ≡ getD (getD (chunk-rows a b cs) i []) j 0
-      const : (i : ℕ) → i < length (all-consts cs) → listed-constAt t (a + i) ≡ getD (all-consts cs) i 0
+      const : (i : ℕ) → i < length (all-consts cs) → constAt t (a + i) ≡ getD (all-consts cs) i 0
       op : (i : ℕ) → i < length (all-ops cs) → opAt t (b + i) ≡ getD (all-ops cs) i no-op
       chunks-end : k + length cs ≡ count t 7
       consts-end : a + length (all-consts cs) ≡ count t 8
@@ -279,7 +279,7 @@ module _ (t : List ℕ) (r : Reader) (h : Held t (lists r)) where
           record {
             row = λ i j p l. ap (λ (n : ℕ). cell t 7 n j) (let z : suc k + i ≡ k + suc i = omega arith in z) ∙ fr .row (suc i) j (omega arith) l;
             const =
-                λ i p. ap (listed-constAt t) (let z : a + length (c .consts) + i ≡ a + (length (c .consts) + i) = omega arith in z)
+                λ i p. ap (constAt t) (let z : a + length (c .consts) + i ≡ a + (length (c .consts) + i) = omega arith in z)
                 ∙ fr .const (length (c .consts) + i) (omega (arith, consts-long))
                 ∙ getD-append-add (c .consts) (all-consts cs) i 0;
             op =
@@ -326,13 +326,13 @@ module _ (t : List ℕ) (r : Reader) (h : Held t (lists r)) where
         omega (arith, end-const-is k a b c cs fr, first-const-is k a b c cs fr) in
         let q : endAt t 9 3 k - firstAt t 9 3 k ≡ length (c .ops) =
         omega (arith, end-op-is k a b c cs fr, first-op-is k a b c cs fr) in
-        let x : tabulate a (length (c .consts)) (listed-constAt t) ≡ c .consts =
-        tabulate-list 0 (c .consts) a (listed-constAt t) (λ i h. own-const i h) in
+        let x : tabulate a (length (c .consts)) (constAt t) ≡ c .consts =
+        tabulate-list 0 (c .consts) a (constAt t) (λ i h. own-const i h) in
         let y : tabulate b (length (c .ops)) (opAt t) ≡ c .ops =
         tabulate-list no-op (c .ops) b (opAt t) (λ i h. own-op i h) in
         rw (l, p, q, first-const-is k a b c cs fr, first-op-is k a b c cs fr, x, y)
       where
-        own-const : (i : ℕ) → i < length (c .consts) → listed-constAt t (a + i) ≡ getD (c .consts) i 0
+        own-const : (i : ℕ) → i < length (c .consts) → constAt t (a + i) ≡ getD (c .consts) i 0
         own-const i h =
             fr .const i (omega (arith, consts-long k a b c cs fr)) ∙ List·getD-append (c .consts) (all-consts cs) 0 i h
 
@@ -356,7 +356,7 @@ module _ (t : List ℕ) (r : Reader) (h : Held t (lists r)) where
               λ i j p l. ap (λ (n : ℕ). cell t 7 n j) (zero-add i)
               ∙ cell-is t (lists r) 7 i j h (omega arith) (omega (arith, rows-long 0 0 (m .chunks))) l;
           const =
-              λ i p. ap (listed-constAt t) (zero-add i)
+              λ i p. ap (constAt t) (zero-add i)
               ∙ consts-are i p (all-at ConstFits 0 (all-consts (m .chunks)) (consts-fit (m .chunks) (fit .chunks)) i p);
           op =
               λ i p. ap (opAt t) (zero-add i)

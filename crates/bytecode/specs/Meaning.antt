@@ -65,37 +65,36 @@ wire-of (suc (suc (suc m))) k n = top
 unfoldable pub wireOf : ℕ → Wire
 wireOf w = wire-of (w % 4) (w / 4 % 256) (limited (bits 32) (w / 1024))
 
--- The same as the walk takes it: known where the module has its kind.
+-- 02, S-1: as the walk takes it, a shape of a kind that the module lacks is unknown; and so below, where plain names are what the listing says.
 unfoldable pub knownOf : List ℕ → ℕ → Wire
 knownOf t w = known-wire (headerOf t .float) (wireOf w)
 
--- an entry as it is listed, and as the walk takes it
-unfoldable pub listed-nativeAt : List ℕ → ℕ → Wire
-listed-nativeAt t i = wireOf (cell t 5 i 1)
-
 unfoldable pub nativeAt : List ℕ → ℕ → Wire
-nativeAt t i = knownOf t (cell t 5 i 1)
+nativeAt t i = wireOf (cell t 5 i 1)
+
+unfoldable pub known-nativeAt : List ℕ → ℕ → Wire
+known-nativeAt t i = knownOf t (cell t 5 i 1)
 
 -- A signature's row: how many shapes, RET, RESUME, the parameters.
 unfoldable pub params-at : List ℕ → ℕ → ℕ
 params-at t i = limited 16 (cell t 6 i 0 - 2)
 
-unfoldable pub listed-sigAt : List ℕ → ℕ → Sig
-listed-sigAt t i =
+unfoldable pub sigAt : List ℕ → ℕ → Sig
+sigAt t i =
     record {
       ret = wireOf (cell t 6 i 1);
       resume = wireOf (cell t 6 i 2);
       params = tabulate 3 (params-at t i) (λ j. wireOf (cell t 6 i j));
     }
 
-unfoldable pub sigAt : List ℕ → ℕ → Sig
-sigAt t i = known-sig (headerOf t .float) (listed-sigAt t i)
-
-unfoldable pub listed-constAt : List ℕ → ℕ → ℕ
-listed-constAt t i = limited (bits 8) (cell t 8 i 1)
+unfoldable pub known-sigAt : List ℕ → ℕ → Sig
+known-sigAt t i = known-sig (headerOf t .float) (sigAt t i)
 
 unfoldable pub constAt : List ℕ → ℕ → ℕ
-constAt t i = known-const (headerOf t .float) (listed-constAt t i)
+constAt t i = limited (bits 8) (cell t 8 i 1)
+
+unfoldable pub known-constAt : List ℕ → ℕ → ℕ
+known-constAt t i = known-const (headerOf t .float) (constAt t i)
 
 -- ── Instructions ──────────────────────────────────────────────────────────────────────────
 
@@ -150,7 +149,7 @@ unfoldable pub codeOf : List ℕ → ℕ → Code
 codeOf t k =
     record {
       locals = localsAt t k;
-      consts = tabulate (first-const t k) (const-count t k) (listed-constAt t);
+      consts = tabulate (first-const t k) (const-count t k) (constAt t);
       ops = tabulate (first-op t k) (op-count t k) (opAt t);
     }
 
@@ -172,17 +171,17 @@ enumsOf t = tabulate 0 (count t 4) (enumAt t)
 unfoldable pub enum-sizesOf : List ℕ → List ℕ
 enum-sizesOf t = map (saturating-add (headerOf t .word)) (enumsOf t)
 
-unfoldable pub listed-natives : List ℕ → List Wire
-listed-natives t = tabulate 0 (count t 5) (listed-nativeAt t)
-
 unfoldable pub nativesOf : List ℕ → List Wire
 nativesOf t = tabulate 0 (count t 5) (nativeAt t)
 
-unfoldable pub listed-sigs : List ℕ → List Sig
-listed-sigs t = tabulate 0 (count t 6) (listed-sigAt t)
+unfoldable pub known-natives : List ℕ → List Wire
+known-natives t = tabulate 0 (count t 5) (known-nativeAt t)
 
 unfoldable pub sigsOf : List ℕ → List Sig
 sigsOf t = tabulate 0 (count t 6) (sigAt t)
+
+unfoldable pub known-sigs : List ℕ → List Sig
+known-sigs t = tabulate 0 (count t 6) (known-sigAt t)
 
 unfoldable pub moduleOf : List ℕ → Module
 moduleOf t =
@@ -192,8 +191,8 @@ moduleOf t =
       shareds = sharedsOf t;
       privates = privatesOf t;
       enums = enumsOf t;
-      natives = listed-natives t;
-      sigs = listed-sigs t;
+      natives = nativesOf t;
+      sigs = sigsOf t;
       chunks = tabulate 0 (count t 7) (codeOf t);
     }
 
@@ -231,19 +230,19 @@ module _ (t : List ℕ) (k : ℕ) where
   unfolding chunkOf under-check moduleOf enum-sizesOf
   chunk-enum-sizes = refl
 
-  pub chunk-natives : chunkOf t k .natives ≡ nativesOf t
-  unfolding chunkOf under-check moduleOf listed-natives listed-nativeAt nativesOf nativeAt knownOf
-  chunk-natives = tabulate-map (known-wire (headerOf t .float)) 0 (count t 5) (listed-nativeAt t)
+  pub chunk-natives : chunkOf t k .natives ≡ known-natives t
+  unfolding chunkOf under-check moduleOf nativesOf nativeAt known-natives known-nativeAt knownOf
+  chunk-natives = tabulate-map (known-wire (headerOf t .float)) 0 (count t 5) (nativeAt t)
 
-  pub chunk-sigs : chunkOf t k .sigs ≡ sigsOf t
-  unfolding chunkOf under-check moduleOf listed-sigs sigsOf sigAt
-  chunk-sigs = tabulate-map (known-sig (headerOf t .float)) 0 (count t 6) (listed-sigAt t)
+  pub chunk-sigs : chunkOf t k .sigs ≡ known-sigs t
+  unfolding chunkOf under-check moduleOf sigsOf known-sigs known-sigAt
+  chunk-sigs = tabulate-map (known-sig (headerOf t .float)) 0 (count t 6) (sigAt t)
 
-  pub chunk-sig : chunkOf t k .sig ≡ getD (sigsOf t) k no-sig
-  unfolding chunkOf under-check moduleOf listed-sigs sigsOf sigAt no-sig known-sig known-wire
+  pub chunk-sig : chunkOf t k .sig ≡ getD (known-sigs t) k no-sig
+  unfolding chunkOf under-check moduleOf sigsOf known-sigs known-sigAt no-sig known-sig known-wire
   chunk-sig =
-      sym (List·getD-map (known-sig (headerOf t .float)) (listed-sigs t) k no-sig)
-      ∙ ap (λ (l : List Sig). getD l k no-sig) (tabulate-map (known-sig (headerOf t .float)) 0 (count t 6) (listed-sigAt t))
+      sym (List·getD-map (known-sig (headerOf t .float)) (sigsOf t) k no-sig)
+      ∙ ap (λ (l : List Sig). getD l k no-sig) (tabulate-map (known-sig (headerOf t .float)) 0 (count t 6) (sigAt t))
 
   pub chunk-locals : chunkOf t k .locals ≡ localsAt t k
   unfolding chunkOf under-check codeOf

@@ -12,7 +12,7 @@ ghost use Rattle.definition.specs.Module.{no-sig, known-const};
 ghost use Rattle.definition.specs.Effects.{shape-of, returned, returned-native};
 ghost use Rattle.bytecode.specs.Tables.{tables, stride, cap, base, size, row-at, Appended};
 ghost use Rattle.bytecode.specs.Lists.{limited};
-ghost use Rattle.bytecode.specs.Meaning.{count as countOf, headerOf, slotAt, slot-of, sharedAt, privateAt, enumAt, wireOf, localsAt, firstAt, endAt, nativesOf, sigsOf, chunkOf, enum-sizesOf};
+ghost use Rattle.bytecode.specs.Meaning.{count as countOf, headerOf, slotAt, slot-of, sharedAt, privateAt, enumAt, wireOf, localsAt, firstAt, endAt, known-natives, known-sigs, chunkOf, enum-sizesOf};
 ghost use Rattle.bytecode.specs.Parts.{header-of, Widths-of, shared-of, private-of, declared-shape, sig-shape, Span-is, constant-of, Instr-is, index-pushed, native-pushed, trap-need, Effect-is};
 ghost use lib.IntN.{pos, _-ℤ_};
 
@@ -342,7 +342,7 @@ fn shape_of_word(float: u8, w: u64) -> WireShape
 
 // What native k is declared to return; unknown where there is none.
 pub fn native_shape(t: &[u64], k: usize) -> WireShape
-    ensures { λ r. ⌜ declared-shape r ≡ shape-of (returned-native (getElem? (nativesOf (now (t .entry))) k)) ⌝ }
+    ensures { λ r. ⌜ declared-shape r ≡ shape-of (returned-native (getElem? (known-natives (now (t .entry))) k)) ⌝ }
 {
     if k < count(t, NATIVES) {
         return shape_of_word(float_of(t), cell(t, NATIVES, k, 1));
@@ -362,20 +362,20 @@ fn sig_shape(t: &[u64], k: usize, j: usize) -> WireShape
 }
 
 pub fn sig_return(t: &[u64], k: usize) -> WireShape
-    ensures { λ r. ⌜ declared-shape r ≡ shape-of (returned (getElem? (sigsOf (now (t .entry))) k)) ⌝ }
+    ensures { λ r. ⌜ declared-shape r ≡ shape-of (returned (getElem? (known-sigs (now (t .entry))) k)) ⌝ }
 {
     sig_shape(t, k, 1)
 }
 
 pub fn sig_resume(t: &[u64], k: usize) -> WireShape
-    ensures { λ r. ⌜ declared-shape r ≡ from-wire (getD (sigsOf (now (t .entry))) k no-sig .resume) ⌝ }
+    ensures { λ r. ⌜ declared-shape r ≡ from-wire (getD (known-sigs (now (t .entry))) k no-sig .resume) ⌝ }
 {
     sig_shape(t, k, 2)
 }
 
 // The number of parameters of signature k; 0 where there is no such signature.
 pub fn sig_params(t: &[u64], k: usize) -> usize
-    ensures { λ r. ⌜ (r ≡ length (getD (sigsOf (now (t .entry))) k no-sig .params)) × (r ≤ 16) ⌝ }
+    ensures { λ r. ⌜ (r ≡ length (getD (known-sigs (now (t .entry))) k no-sig .params)) × (r ≤ 16) ⌝ }
 {
     if k < count(t, SIGNATURES) {
         let n = cell(t, SIGNATURES, k, 0);
@@ -389,7 +389,7 @@ pub fn sig_params(t: &[u64], k: usize) -> usize
 
 // Parameter j of signature k; unknown where there is none.
 pub fn sig_param(t: &[u64], k: usize, j: usize) -> WireShape
-    ensures { λ r. ⌜ declared-shape r ≡ getD (map from-wire (getD (sigsOf (now (t .entry))) k no-sig .params)) j unknown ⌝ }
+    ensures { λ r. ⌜ declared-shape r ≡ getD (map from-wire (getD (known-sigs (now (t .entry))) k no-sig .params)) j unknown ⌝ }
 {
     if j < sig_params(t, k) {
         return sig_shape(t, k, j + 3);

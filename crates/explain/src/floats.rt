@@ -1,6 +1,4 @@
-// Lines that name kind 5, the float, in a listing whose first line says F 0. Any bytes: a line of another form names none.
-use crate::lines;
-use crate::put;
+// Lines that name kind 5, the float, in a listing whose first line says F 0. Any bytes: a line of another form is taken for none.
 
 // Where F stands in a first line, whose W has one digit.
 const FLOAT_BYTES: usize = 10;
@@ -12,40 +10,32 @@ fn are_lacking(listing: &[u8]) -> bool {
     listing[FLOAT_BYTES] == b'0'
 }
 
-// Whether a text stands at a place.
-fn stands(listing: &[u8], at: usize, text: &[u8]) -> bool {
+// The place after a text that stands at a place; 0 where it does not.
+fn after_text(listing: &[u8], at: usize, text: &[u8]) -> usize {
     let mut i = at;
     let mut j = 0;
     while j < text.len() {
         if listing.len() <= i {
-            return false;
+            return 0;
         }
         if listing[i] != text[j] {
-            return false;
+            return 0;
         }
         i += 1;
         j += 1;
     }
-    true
+    i
 }
 
-// Whether a text stands somewhere from `from` on, and begins before `end`.
-fn stands_before(listing: &[u8], from: usize, end: usize, text: &[u8]) -> bool {
-    let mut i = from;
-    while i < end {
-        if stands(listing, i, text) {
-            return true;
-        }
-        i += 1;
-    }
-    false
-}
-
-// The first space from `from` on, or the end.
-fn space_from(listing: &[u8], from: usize) -> usize {
-    let mut i = from;
+// The place after the digits that stand at a place.
+fn after_number(listing: &[u8], at: usize) -> usize {
+    let mut i = at;
     while i < listing.len() {
-        if listing[i] == b' ' {
+        let b = listing[i];
+        if b < b'0' {
+            return i;
+        }
+        if b'9' < b {
             return i;
         }
         i += 1;
@@ -53,30 +43,46 @@ fn space_from(listing: &[u8], from: usize) -> usize {
     i
 }
 
-// Whether the line that begins at `from` is an op that names it: a flat read, with the kind last.
+// The place after the name of a flat read of a field; 0 where the line is none.
+fn after_field(listing: &[u8], from: usize) -> usize {
+    let field = after_text(listing, from, b"(op GetField Flat ");
+    if field != 0 {
+        return field;
+    }
+    let tuple = after_text(listing, from, b"(op GetTupleField Flat ");
+    if tuple != 0 {
+        return tuple;
+    }
+    after_text(listing, from, b"(op GetEnumField Flat ")
+}
+
+// Whether the line that begins at `from` is an op that names it.
 pub fn is_op(listing: &[u8], from: usize) -> bool {
     if !are_lacking(listing) {
         return false;
     }
-    if !stands(listing, from, b"(op Get") {
+    if after_text(listing, from, b"(op GetIndex Flat 5)\n") != 0 {
+        return true;
+    }
+    let offset = after_field(listing, from);
+    if offset == 0 {
         return false;
     }
-    let end = lines::end_of(listing, from);
-    if end < 3 {
+    let end = after_number(listing, offset);
+    if end == offset {
         return false;
     }
-    if stands(listing, end - 3, b" 5)") {
-        return stands_before(listing, from, end, b" Flat ");
-    }
-    false
+    after_text(listing, end, b" 5)\n") != 0
 }
 
-// Whether it is a shared entry of that kind, the second of its numbers.
+// Whether it is a shared entry of that kind.
 pub fn is_entry(listing: &[u8], from: usize) -> bool {
     if !are_lacking(listing) {
         return false;
     }
-    let offset = space_from(listing, from);
-    let kind = space_from(listing, put::after(offset));
-    stands(listing, kind, b" 5 ")
+    let offset = after_text(listing, from, b"(shared ");
+    if offset == 0 {
+        return false;
+    }
+    after_text(listing, after_number(listing, offset), b" 5 ") != 0
 }

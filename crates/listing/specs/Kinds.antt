@@ -1,12 +1,12 @@
 -- 02, S-1: "an op naming it is a bad line". Whether an op's operands name a kind that is lacking, operand by operand, for a loop over them.
-use mathlib.Core.Path.{_≡_, refl, sym, ap, _∙_, subst}
-use mathlib.Core.Bool.{Bool, true, false, not, _&&_}
+use mathlib.Core.Path.{_≡_, refl, sym, ap, _∙_}
+use mathlib.Core.Bool.{Bool, true, false, _&&_}
 use mathlib.Core.List.{List, [], _∷_}
 use Prim.Native.Nat.{ℕ, zero, suc, _+_, _≤_, _<_}
 use native.Mathlib.Omega.{arith}
 use native.Mathlib.Decide.{decLt}
 use native.Mathlib.Numerals.{add-one}
-use borrow.Author.Tests.{eq-eqb, ne-eqb}
+use borrow.Author.Tests.{ne-eqb}
 use lib.Dec.{eqb}
 use lib.ListN.{length, getD, drop, drop-of-length-le}
 use Rattle.definition.specs.Shapes.{is-lacking}
@@ -17,11 +17,19 @@ use Rattle.bytecode.specs.Lists.{limited, limited-same, limited-over}
 abbrev pub is-named : ℕ → List ℕ → List ℕ → ℕ → Bool
 is-named float ms ns j = eqb (getD ms j 0) 7 && is-lacking float (getD ns j 0)
 
--- without floats it is so where the operand may be 7 and is 5
-pub named-is : (float : ℕ) (ms ns : List ℕ) (j most value : ℕ) → float ≡ 0 → most ≡ getD ms j 0 → value ≡ getD ns j 0
-    → (eqb most 7 && eqb value 5) ≡ is-named float ms ns j
+and-false : (b : Bool) → (b && false) ≡ false
+and-false true = refl
+and-false false = refl
+
+-- the same of what stands there
+pub named-is : (float : ℕ) (ms ns : List ℕ) (j most value : ℕ) → most ≡ getD ms j 0 → value ≡ getD ns j 0
+    → (eqb most 7 && is-lacking float value) ≡ is-named float ms ns j
+named-is float ms ns j most value m v = rw (m, v)
+
+-- no kind has more than 8 bits
+pub no-kind : (float value : ℕ) → 255 < value → false ≡ is-lacking float value
 unfolding is-lacking
-named-is float ms ns j most value f m v = rw (f, m, v)
+no-kind float value h = rw (ne-eqb value 5 (λ e. absurd (omega arith))) (sym (and-false (eqb float 0)))
 
 -- ── From operand j on ─────────────────────────────────────────────────────────────────────
 
@@ -49,15 +57,10 @@ named-next float ms ns j e =
 no-false : {b : Bool} {P : Type 0} → b ≡ true → b ≡ false → P
 no-false e f = absurd (let z : _≡_ {A = ℕ} 0 1 = cc in omega arith)
 
--- no operand is 0 where nothing stands, and 0 is no kind that is lacking
+-- where no operand stands 0 is read, which is no kind that is lacking
 nothing-named : (m float : ℕ) → (eqb m 7 && is-lacking float 0) ≡ false
 unfolding is-lacking
-nothing-named m float = go (eqb m 7) (eqb float 0)
-  where
-    go : (x y : Bool) → (x && (y && false)) ≡ false
-    go true true = refl
-    go true false = refl
-    go false y = refl
+nothing-named m float = rw (and-false (eqb float 0), and-false (eqb m 7))
 
 -- it is one
 pub named-not : (float : ℕ) (ms ns : List ℕ) (j : ℕ) → is-named float ms ns j ≡ true → false ≡ has-kinds float (drop j ms) (drop j ns)
@@ -78,10 +81,6 @@ unfolding has-kinds is-lacking
 named-all float [] ns h = refl
 named-all float (m ∷ ms) [] h = refl
 named-all float (m ∷ ms) (n ∷ ns) h = rw (ne-eqb float 0 h, and-false (eqb m 7)) (named-all float ms ns h)
-  where
-    and-false : (b : Bool) → (b && false) ≡ false
-    and-false true = refl
-    and-false false = refl
 
 -- ── Bytes of a float that say the same ────────────────────────────────────────────────────
 

@@ -2,14 +2,13 @@
 use answer::limit;
 use bytecode::ops;
 use bytecode::ops::Found;
-use value_layout::scalar;
 ghost use mathlib.Core.Path.{_≡_};
 ghost use mathlib.Core.List.{List, _∷_, []};
 ghost use mathlib.Core.Option.{none, some};
 ghost use lib.ListN.{length, take, drop, getD};
 ghost use Prim.Native.Nat.{ℕ, _+_, _*_, _-_, _<_, _≤_};
 ghost use Rattle.definition.specs.Format.{Bytes, bytes, digits-from, is-digit, begins-digit, begins-number, number-at, numbers-at, strip, begins-with};
-ghost use Rattle.definition.specs.Shapes.{same-places};
+ghost use Rattle.definition.specs.Shapes.{same-places, is-lacking};
 ghost use Rattle.definition.specs.Ops.{ops as op-rows};
 ghost use Rattle.theorems.specs.KindOf.{has-kinds};
 ghost use Rattle.bytecode.specs.Meaning.{maxima-of};
@@ -178,7 +177,7 @@ fn is_width(n: u64) -> bool
     }
 }
 
-// A controller without floats has none of 0 bytes.
+// What a word may have, or 0 where the controller has no floats.
 fn is_float_width(n: u64) -> bool
     ensures { λ r. ⌜ r ≡ is-member n (0 ∷ 1 ∷ 2 ∷ 4 ∷ 8 ∷ []) ⌝ }
 {
@@ -507,6 +506,9 @@ fn name_end(s: &[u8], at: usize) -> usize
     i
 }
 
+// The largest K: an operand that may be so much is a kind of scalar.
+const MOST_KIND: u64 = 7;
+
 // The code of the numbers up to a maximum.
 fn maximum_code(m: u64) -> u8
     ensures { λ r. ⌜ r ≡ max-code m ⌝ }
@@ -520,7 +522,7 @@ fn maximum_code(m: u64) -> u8
     if m == 4294967295 {
         return sort::BITS_32;
     }
-    if m == 7 {
+    if m == MOST_KIND {
         return sort::SCALAR;
     }
     sort::COMPOSITE
@@ -714,20 +716,20 @@ fn stands(place: u64, kind: usize) -> bool
     place <= high_of(kind)
 }
 
-// The largest K: an operand that may be so much is a kind of scalar.
-const MOST_KIND: u64 = 7;
-
-// Whether an operand is the kind of floats: a kind by the largest number that it may be, and that one by its value.
-fn names_float(most: u64, value: u64) -> bool
-    ensures { λ r. ⌜ r ≡ (eqb most 7 && eqb value 5) ⌝ }
+// Whether an operand names a kind that a module lacks: it is a kind by the largest number that it may be. No kind has more than 8 bits.
+fn names_lacking(float: u8, most: u64, value: u64) -> bool
+    ensures { λ r. ⌜ r ≡ (eqb most 7 && is-lacking float value) ⌝ }
 {
     if most != MOST_KIND {
         return false;
     }
-    value == wide(scalar::FLOAT)
+    if 255 < value {
+        return false;
+    }
+    value_layout::is_lacking(float, value as u8)
 }
 
-// Whether no operand of a row is a kind that a module lacks, from the bytes of its float. One with floats lacks none.
+// Whether no operand of a row names a kind that a module lacks. One with floats lacks none, and is spared the loop.
 fn has_kinds(names: &[u64; 781], float: u8, row: usize, e: Entry) -> bool
     requires { ⌜ (row < 75) × (now names ≡ name-table) ⌝ }
     ensures { λ r. ⌜ ((vs : List ℕ) → Stored (e .vals) (e .count) vs → r ≡ has-kinds float (maxima-of row) vs) ⌝ }
@@ -739,7 +741,7 @@ fn has_kinds(names: &[u64; 781], float: u8, row: usize, e: Entry) -> bool
     let mut j = 0;
     while j < 3 {
         let most = ops::maximum(names, row, j);
-        if names_float(most, vals[j + 1]) {
+        if names_lacking(float, most, vals[j + 1]) {
             return false;
         }
         j += 1;

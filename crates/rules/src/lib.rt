@@ -31,7 +31,7 @@ ghost use Rattle.definition.specs.Effects.{width, need, net, const-shape};
 ghost use Rattle.definition.specs.Tests.{field-test, is-unknown, text-field-test, test-if, index-test, text-index-test, text-elements, fits-declared, enum-test};
 ghost use Rattle.definition.specs.Walk.{State as AnyState, floor-test, need-test};
 ghost use Rattle.value_layout.specs.Sizes.{Wide};
-ghost use Rattle.bytecode.specs.Meaning.{chunkOf, nativesOf, enum-sizesOf};
+ghost use Rattle.bytecode.specs.Meaning.{chunkOf, known-natives, enum-sizesOf};
 ghost use Rattle.bytecode.specs.Parts.{declared-shape, constant-of, instrOf, Effect-is};
 ghost use Rattle.shapes.specs.Text.{Means};
 ghost use Rattle.shapes.specs.Model.{valueOf, plainOf, shapeOf};
@@ -195,7 +195,7 @@ fn yields(t: &[u64], chunk: usize) -> Rule
 
 // A native call's count has 7 bits; the eighth says that a flag is pushed above the result.
 fn native(t: &[u64], k: u32, n: u32) -> Rule
-    ensures { λ r. ⌜ ((c : Chunk) (ip : ℕ) (s : AnyState) → c .natives ≡ nativesOf (now (t .entry)) → Rules c ip (shaped (Native k n)) s r) ⌝ }
+    ensures { λ r. ⌜ ((c : Chunk) (ip : ℕ) (s : AnyState) → c .natives ≡ known-natives (now (t .entry)) → Rules c ip (shaped (Native k n)) s r) ⌝ }
 {
     let v = wire_value(bytecode::native_shape(t, index(k)));
     let m = index(n % 128);

@@ -8,16 +8,23 @@ use Prim.Native.Nat.{ℕ, zero, suc}
 use native.Mathlib.Omega.{arith}
 use lib.Dec.{eqb}
 use borrow.Author.Tests.{ne-eqb}
-use lib.ListN.{length, getElem?}
+use lib.ListN.{length, getD, getElem?}
 use Rattle.definition.specs.Basics.{choose}
 use Rattle.definition.specs.Shapes.{scalar-widths, is-lacking, Wire, top, scalarW, flatW, top-if, known-wire}
-use Rattle.definition.specs.Instructions.{Sig, Instr}
+use Rattle.definition.specs.Instructions.{Sig, Instr, Chunk}
 use Rattle.definition.specs.Ops.{Makes, Row, row, ops, Op, make-at, instr-of, instr, named-kind, has-kind}
-use Rattle.definition.specs.Module.{Header, address-bytes, known-sig, known-const}
+use Rattle.definition.specs.Module.{Code, Header, Module, address-bytes, no-sig, known-sig, known-const, under-check}
 use Rattle.definition.specs.Layout.{unless-lacking, scalar-bytes}
 use Rattle.theorems.specs.Cover.{no-some}
 
 -- ── A module with floats ──────────────────────────────────────────────────────────────────
+
+-- a chunk that the walk takes has the shapes and constants of the listing
+pub record As-listed (m : Module) (k : ℕ) (c : Code) (u : Chunk) : Type 0 where
+  pub natives : u .natives ≡ m .natives
+  pub sigs : u .sigs ≡ m .sigs
+  pub sig : u .sig ≡ getD (m .sigs) k no-sig
+  pub consts : u .consts ≡ c .consts
 
 -- Where a float has bytes no kind is lacking, and every shape and constant of the walk is that of the listing.
 pub record With-floats (float : ℕ) : Type 0 where
@@ -27,6 +34,7 @@ pub record With-floats (float : ℕ) : Type 0 where
   pub consts : (k : ℕ) → known-const float k ≡ k
   pub sizes : (h : Header) (k : ℕ) → h .float ≡ float → scalar-bytes h k ≡ getElem? (scalar-widths (h .word) float (address-bytes h)) k
   pub ops : (i : Instr) → has-kind float (named-kind i) ≡ true
+  pub chunks : (m : Module) (k base : ℕ) (c : Code) → m .header .float ≡ float → As-listed m k c (under-check m k base c)
 
 module _ (float : ℕ) (n : float ≢ 0) where
   no-kind : (k : ℕ) → is-lacking float k ≡ false
@@ -60,9 +68,27 @@ module _ (float : ℕ) (n : float ≢ 0) where
   no-op none = refl
   no-op (some k) = rw (no-kind k)
 
+  same-sigs : (gs : List Sig) → map (known-sig float) gs ≡ gs
+  same-sigs [] = refl
+  same-sigs (g ∷ gs) = rw (same-sig g, same-sigs gs)
+
+  same-consts : (ks : List ℕ) → map (known-const float) ks ≡ ks
+  same-consts [] = refl
+  same-consts (k ∷ ks) = rw (same-const k, same-consts ks)
+
+  same-chunk : (m : Module) (k base : ℕ) (c : Code) → m .header .float ≡ float → As-listed m k c (under-check m k base c)
+  unfolding under-check
+  same-chunk m k base c e =
+      record {
+        natives = rw e (same-wires (m .natives));
+        sigs = rw e (same-sigs (m .sigs));
+        sig = rw e (same-sig (getD (m .sigs) k no-sig));
+        consts = rw e (same-consts (c .consts));
+      }
+
   pub with-floats : With-floats float
   with-floats =
-      record { kinds = no-kind; wires = same-wire; sigs = same-sig; consts = same-const; sizes = same-size; ops = λ i. no-op (named-kind i) }
+      record { kinds = no-kind; wires = same-wire; sigs = same-sig; consts = same-const; sizes = same-size; ops = λ i. no-op (named-kind i); chunks = same-chunk }
 
 -- ── Ops that name a kind ──────────────────────────────────────────────────────────────────
 

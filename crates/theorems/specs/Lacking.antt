@@ -1,19 +1,20 @@
--- 02, S-1: "Then kind 5 has no width". No shape that the walk holds is a scalar of a kind that the module lacks, so no width of it is asked for.
-use mathlib.Core.Path.{_≡_, refl, sym, ap, _∙_, subst}
+-- 02, S-1: "Then kind 5 has no width". Each way in which the walk makes a state, from states without a scalar of a kind that the module lacks, gives
+-- such a state, and so no width of that kind is asked for. That all its states are so follows by its definition, and is not stated.
+use mathlib.Core.Path.{_≡_, refl, sym, subst}
 use mathlib.Core.Bool.{Bool, true, false, not, _&&_, _||_}
 use mathlib.Core.Option.{Option, none, some}
 use mathlib.Core.List.{List, [], _∷_, _++_, map}
 use Prim.Native.Nat.{ℕ, zero, suc}
-use lib.ListN.{length, getD, getElem?, drop, set, replicate}
+use lib.ListN.{getD, getElem?, replicate}
 use native.Mathlib.Omega.{arith}
 use lib.Dec.{leb, eqb}
-use Rattle.definition.specs.Basics.{choose, ok}
+use Rattle.definition.specs.Basics.{choose}
 use Rattle.definition.specs.Shapes.{Shape, unknown, scalar, composite, is-lacking, same-text, if-same, join-text, join, join-all}
 use Rattle.definition.specs.Shapes.{Wire, top, scalarW, flatW, top-if, known-wire, from-wire}
 use Rattle.definition.specs.Instructions.{instr-at, Instr, Shaped, Sig, Chunk, Field, Elem}
 use Rattle.definition.specs.Ops.{instr, Op, named-kind, has-kind}
 use Rattle.definition.specs.Module.{Code, Header, Module, known-sig, known-const, no-sig, under-check}
-use Rattle.definition.specs.Effects.{Pushed, exact, declared, shape-of, effect, const-shape, returned, returned-native, ints, with-bounds, with-flag}
+use Rattle.definition.specs.Effects.{Pushed, exact, shape-of, effect, const-shape, returned, returned-native, ints, with-bounds, with-flag}
 use Rattle.definition.specs.Effects.{shaped-pushes, pushes, takes, set-top, set-local, write}
 use Rattle.definition.specs.Walk.{State, with-locals, join-states, after, start-locals, params, start, forget-one, names-local, forget}
 use Rattle.theorems.specs.Each.{Each, nobody, both, each-both, each-drop, each-set, each-get}

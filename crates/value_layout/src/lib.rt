@@ -23,7 +23,7 @@ fn wide(bytes: u8) -> u32
 }
 
 impl Widths {
-    // Bytes of a scalar of a kind; a kind that is not known has none.
+    // Bytes of a scalar of a kind; a kind that is not known has none. Without floats theirs is not known either: who may meet it asks is_lacking first.
     pub fn size_in_bytes(self, kind: u8) -> u32
         ensures { λ r. ⌜ r ≡ widthOf self kind ⌝ }
     {

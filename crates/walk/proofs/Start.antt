@@ -18,7 +18,7 @@ use Rattle.theorems.specs.Fuel.{full, chunk-full}
 use Rattle.frame.specs.declared.State.{State}
 use Rattle.frame.specs.Model.{stateOf, stackOf, localsOf, withLocal}
 use Rattle.bytecode.specs.Lists.{tabulate}
-use Rattle.bytecode.specs.Meaning.{chunkOf, chunksOf, count, sigsOf, localsAt, locals-low, first-op, op-count, code-length, chunk-sig, chunk-locals}
+use Rattle.bytecode.specs.Meaning.{chunkOf, chunksOf, count, known-sigs, localsAt, locals-low, first-op, op-count, code-length, chunk-sig, chunk-locals}
 use Rattle.rules.specs.declared.Ctx.{Ctx}
 use Rattle.rules.specs.Answers.{Of}
 use Rattle.blocks.specs.Outcomes.{numbers, pendingOf, breaksOf, flowOf, walkedOf, Open}

@@ -2,7 +2,7 @@ use mathlib.Core.Path.{ap, _∙_}
 use Prim.Native.Nat.{ℕ}
 use lib.ListN.{getElem?}
 use Rattle.definition.specs.Effects.{shape-of, returned}
-use Rattle.bytecode.specs.Meaning.{sigsOf}
+use Rattle.bytecode.specs.Meaning.{known-sigs}
 use Rattle.frame.specs.Model.{at, stateOf}
 use Rattle.rules.proofs.Calls.{call-rules}
 use borrow.Author.Needs.{needs}
@@ -35,7 +35,7 @@ wire-value-requires c κs = search needs
 returns : tie.Need-returns
 returns c =
     λ d l e. let a = c .before .before .before .before .before .args in
-    call-rules d (a .ip) (a .callee) (a .n) (stateOf l (at (a .height) (a .slots .now) (a .places .now))) _ _ _ e (c .before .before .before .check-args .ensures) (c .wire-value .ensures ∙ c .before .sig-return .ensures ∙ ap (λ (k : ℕ). shape-of (returned (getElem? (sigsOf (a .t .now)) k))) (c .before .before .index .ensures))
+    call-rules d (a .ip) (a .callee) (a .n) (stateOf l (at (a .height) (a .slots .now) (a .places .now))) _ _ _ e (c .before .before .before .check-args .ensures) (c .wire-value .ensures ∙ c .before .sig-return .ensures ∙ ap (λ (k : ℕ). shape-of (returned (getElem? (known-sigs (a .t .now)) k))) (c .before .before .index .ensures))
 
 pub call-spec : {M : Type 1} → statement M
 call-spec =

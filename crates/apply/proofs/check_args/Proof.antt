@@ -8,7 +8,7 @@ use lib.ListN.{length, getD, take, drop}
 use Rattle.definition.specs.Shapes.{unknown, from-wire}
 use Rattle.definition.specs.Module.{no-sig}
 use Rattle.definition.specs.Tests.{args-test, fits-declared}
-use Rattle.bytecode.specs.Meaning.{sigsOf}
+use Rattle.bytecode.specs.Meaning.{known-sigs}
 use Rattle.shapes.specs.Model.{placesOf}
 use Rattle.frame.specs.Model.{at, stackOf, valueAt}
 use Rattle.shapes.proofs.Lists.{lt-or-ge}
@@ -30,7 +30,7 @@ use Rattle.bytecode.proofs.sig_params.Reads as sig-params-reads
 use Rattle.frame.proofs.operand.Reads as operand-reads
 
 abbrev Inv-loop : tie.InvT-loop
-Inv-loop t slots places height callee n ip k m arg₀ arg = (arg ≤ m) × (args-test ip callee 0 (reverse (take n (stackOf (at height slots places)))) (getD (sigsOf t) callee no-sig .params) ≡ args-test ip callee arg (drop arg (reverse (take n (stackOf (at height slots places))))) (drop arg (getD (sigsOf t) callee no-sig .params)))
+Inv-loop t slots places height callee n ip k m arg₀ arg = (arg ≤ m) × (args-test ip callee 0 (reverse (take n (stackOf (at height slots places)))) (getD (known-sigs t) callee no-sig .params) ≡ args-test ip callee arg (drop arg (reverse (take n (stackOf (at height slots places))))) (drop arg (getD (known-sigs t) callee no-sig .params)))
 
 abbrev μ-loop : tie.MeasureT-loop
 μ-loop t slots places height callee n ip k m arg₀ arg = m - arg
@@ -89,13 +89,13 @@ loop-again c =
     let a = c .before .before .before .before .before .before .before .before .before .before .before .args in
     let f = valueAt (a .slots .now) (a .places .now) in
     let A = reverse (take (a .n) (stackOf (at (a .height) (a .slots .now) (a .places .now)))) in
-    let P = getD (sigsOf (a .t .now)) (a .callee) no-sig .params in
+    let P = getD (known-sigs (a .t .now)) (a .callee) no-sig .params in
     let la : length A ≡ (a .n) = args-length f (a .n) (a .height) (search needs) in
-    let lp : (c .before .before .before .before .before .before .before .before .sig-params .result) ≡ length P = c .before .before .before .before .before .before .before .before .sig-params .ensures .0 ∙ ap (λ (k : ℕ). length (getD (sigsOf (a .t .now)) k no-sig .params)) (c .before .before .before .before .before .before .before .before .before .index .ensures) in
+    let lp : (c .before .before .before .before .before .before .before .before .sig-params .result) ≡ length P = c .before .before .before .before .before .before .before .before .sig-params .ensures .0 ∙ ap (λ (k : ℕ). length (getD (known-sigs (a .t .now)) k no-sig .params)) (c .before .before .before .before .before .before .before .before .before .index .ensures) in
     let lm : (c .before .before .before .before .before .before .before .least .result) ≡ min (a .n) (c .before .before .before .before .before .before .before .before .sig-params .result) = c .before .before .before .before .before .before .before .least .ensures in
     let hp : (c .before .before .before .before .before .before .loop .arg) < length P = omega arith in
     let ha : (c .before .before .before .before .before .before .loop .arg) < length A = omega arith in
-    let e = c .before .shapes-compatible .ensures (placesOf (c .before .before .before .before .operand .result .known) (c .before .before .before .before .operand .result .places)) none ∙ ap₂ fits-declared (c .before .before .before .before .operand .ensures ∙ args-at f (a .n) (a .height) (search needs) (c .before .before .before .before .before .before .loop .arg) (omega arith)) (c .before .before .from-wire .ensures ∙ c .before .before .before .sig-param .ensures ∙ ap (λ (k : ℕ). getD (map from-wire (getD (sigsOf (a .t .now)) k no-sig .params)) (c .before .before .before .before .before .before .loop .arg) unknown) (c .before .before .before .before .before .before .before .before .before .index .ensures) ∙ param-at P (c .before .before .before .before .before .before .loop .arg) hp) in
+    let e = c .before .shapes-compatible .ensures (placesOf (c .before .before .before .before .operand .result .known) (c .before .before .before .before .operand .result .places)) none ∙ ap₂ fits-declared (c .before .before .before .before .operand .ensures ∙ args-at f (a .n) (a .height) (search needs) (c .before .before .before .before .before .before .loop .arg) (omega arith)) (c .before .before .from-wire .ensures ∙ c .before .before .before .sig-param .ensures ∙ ap (λ (k : ℕ). getD (map from-wire (getD (known-sigs (a .t .now)) k no-sig .params)) (c .before .before .before .before .before .before .loop .arg) unknown) (c .before .before .before .before .before .before .before .before .before .index .ensures) ∙ param-at P (c .before .before .before .before .before .before .loop .arg) hp) in
     (search needs, args-more (a .ip) (a .callee) A P (c .before .before .before .before .before .before .loop .arg) _ ha hp e (c .if1 .taken) (c .before .before .before .before .before .before .loop .inv .1))
 
 -- src/lib.rt:666:49
@@ -109,13 +109,13 @@ returns c =
     let a = c .before .before .before .before .before .before .before .before .before .before .before .before .args in
     let f = valueAt (a .slots .now) (a .places .now) in
     let A = reverse (take (a .n) (stackOf (at (a .height) (a .slots .now) (a .places .now)))) in
-    let P = getD (sigsOf (a .t .now)) (a .callee) no-sig .params in
+    let P = getD (known-sigs (a .t .now)) (a .callee) no-sig .params in
     let la : length A ≡ (a .n) = args-length f (a .n) (a .height) (search needs) in
-    let lp : (c .before .before .before .before .before .before .before .before .before .sig-params .result) ≡ length P = c .before .before .before .before .before .before .before .before .before .sig-params .ensures .0 ∙ ap (λ (k : ℕ). length (getD (sigsOf (a .t .now)) k no-sig .params)) (c .before .before .before .before .before .before .before .before .before .before .index .ensures) in
+    let lp : (c .before .before .before .before .before .before .before .before .before .sig-params .result) ≡ length P = c .before .before .before .before .before .before .before .before .before .sig-params .ensures .0 ∙ ap (λ (k : ℕ). length (getD (known-sigs (a .t .now)) k no-sig .params)) (c .before .before .before .before .before .before .before .before .before .before .index .ensures) in
     let lm : (c .before .before .before .before .before .before .before .before .least .result) ≡ min (a .n) (c .before .before .before .before .before .before .before .before .before .sig-params .result) = c .before .before .before .before .before .before .before .before .least .ensures in
     let hp : (c .before .before .before .before .before .before .before .loop .arg) < length P = omega arith in
     let ha : (c .before .before .before .before .before .before .before .loop .arg) < length A = omega arith in
-    let e = c .before .before .shapes-compatible .ensures (placesOf (c .before .before .before .before .before .operand .result .known) (c .before .before .before .before .before .operand .result .places)) none ∙ ap₂ fits-declared (c .before .before .before .before .before .operand .ensures ∙ args-at f (a .n) (a .height) (search needs) (c .before .before .before .before .before .before .before .loop .arg) (omega arith)) (c .before .before .before .from-wire .ensures ∙ c .before .before .before .before .sig-param .ensures ∙ ap (λ (k : ℕ). getD (map from-wire (getD (sigsOf (a .t .now)) k no-sig .params)) (c .before .before .before .before .before .before .before .loop .arg) unknown) (c .before .before .before .before .before .before .before .before .before .before .index .ensures) ∙ param-at P (c .before .before .before .before .before .before .before .loop .arg) hp) in
+    let e = c .before .before .shapes-compatible .ensures (placesOf (c .before .before .before .before .before .operand .result .known) (c .before .before .before .before .before .operand .result .places)) none ∙ ap₂ fits-declared (c .before .before .before .before .before .operand .ensures ∙ args-at f (a .n) (a .height) (search needs) (c .before .before .before .before .before .before .before .loop .arg) (omega arith)) (c .before .before .before .from-wire .ensures ∙ c .before .before .before .before .sig-param .ensures ∙ ap (λ (k : ℕ). getD (map from-wire (getD (known-sigs (a .t .now)) k no-sig .params)) (c .before .before .before .before .before .before .before .loop .arg) unknown) (c .before .before .before .before .before .before .before .before .before .before .index .ensures) ∙ param-at P (c .before .before .before .before .before .before .before .loop .arg) hp) in
     ap (λ (z : ℕ). some (14 ∷ (a .ip) ∷ z ∷ (c .before .before .before .before .before .before .before .loop .arg) ∷ [])) (c .wide .ensures) ∙ args-stop (a .ip) (a .callee) A P (c .before .before .before .before .before .before .before .loop .arg) _ ha hp e (c .before .if1 .left) (c .before .before .before .before .before .before .before .loop .inv .1)
 
 -- src/lib.rt:644:1
@@ -125,9 +125,9 @@ returns-2 c =
     let a = c .before .before .before .before .before .before .args in
     let f = valueAt (a .slots .now) (a .places .now) in
     let A = reverse (take (a .n) (stackOf (at (a .height) (a .slots .now) (a .places .now)))) in
-    let P = getD (sigsOf (a .t .now)) (a .callee) no-sig .params in
+    let P = getD (known-sigs (a .t .now)) (a .callee) no-sig .params in
     let la : length A ≡ (a .n) = args-length f (a .n) (a .height) (search needs) in
-    let lp : (c .before .before .before .sig-params .result) ≡ length P = c .before .before .before .sig-params .ensures .0 ∙ ap (λ (k : ℕ). length (getD (sigsOf (a .t .now)) k no-sig .params)) (c .before .before .before .before .index .ensures) in
+    let lp : (c .before .before .before .sig-params .result) ≡ length P = c .before .before .before .sig-params .ensures .0 ∙ ap (λ (k : ℕ). length (getD (known-sigs (a .t .now)) k no-sig .params)) (c .before .before .before .before .index .ensures) in
     let lm : (c .before .before .least .result) ≡ min (a .n) (c .before .before .before .sig-params .result) = c .before .before .least .ensures in
     ⊎-elim (λ (u : (c .before .loop .arg) < (a .n)). args-end-last (a .ip) (a .callee) A P (c .before .loop .arg) (omega arith) (c .before .loop .inv .1))
     (λ (u : (a .n) ≤ (c .before .loop .arg)). args-end-first (a .ip) (a .callee) A P (c .before .loop .arg) (omega arith) (c .before .loop .inv .1)) (lt-or-ge (c .before .loop .arg) (a .n))

@@ -1,9 +1,9 @@
-use mathlib.Core.Path.{_∙_, ap, ap₂}
+use mathlib.Core.Path.{_∙_, ap}
 use Prim.Native.Nat.{ℕ, _+_}
 use mathlib.Core.Option.{some}
 use Rattle.bytecode.specs.Tables.{cap}
 use Rattle.bytecode.specs.Lists.{limited}
-use Rattle.bytecode.specs.Meaning.{constAt, listed-constAt, headerOf}
+use Rattle.bytecode.specs.Meaning.{known-constAt, constAt, headerOf}
 use Rattle.bytecode.specs.Parts.{constant-of}
 use Rattle.bytecode.proofs.Laws.{const-in, const-out}
 use borrow.Author.Needs.{needs}
@@ -34,7 +34,7 @@ limited8-requires : tie.Need-limited8-requires
 limited8-requires c κs = search needs
 
 returns : tie.Need-returns
-unfolding constant-of constAt listed-constAt
+unfolding constant-of known-constAt constAt
 returns c =
     ap some
     (c .known-const .ensures

@@ -1,5 +1,4 @@
 use mathlib.Core.Path.{ap, _∙_}
-use Prim.Native.Nat.{ℕ}
 use Rattle.bytecode.specs.Lists.{limited}
 use Rattle.bytecode.proofs.Laws.{float-is}
 use borrow.Author.Needs.{needs}

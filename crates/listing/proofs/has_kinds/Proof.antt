@@ -1,6 +1,6 @@
-use mathlib.Core.Path.{_≡_, _∙_, sym, ap, refl}
+use mathlib.Core.Path.{_≡_, _∙_, sym, refl}
 use mathlib.Core.List.{List}
-use Prim.Native.Nat.{ℕ, _-_, _≤_, _+_}
+use Prim.Native.Nat.{ℕ, _-_, _≤_}
 use lib.ListN.{drop}
 use Rattle.theorems.specs.KindOf.{has-kinds}
 use Rattle.bytecode.specs.Meaning.{maxima-of}
@@ -12,7 +12,7 @@ use native.Mathlib.Omega.{arith}
 use Rattle.listing.proofs.has_kinds.Statement.{statement}
 use Rattle.listing.proofs.has_kinds.Tie as tie
 use Rattle.bytecode.proofs.ops.maximum.Reads as maximum-reads
-use Rattle.listing.proofs.names_float.Reads as names-float-reads
+use Rattle.listing.proofs.names_lacking.Reads as names-lacking-reads
 
 -- the operands before j name no kind that is lacking
 abbrev Inv-loop : tie.InvT-loop
@@ -31,22 +31,22 @@ loop-holds c = (omega arith, λ n vs st. refl)
 maximum-requires : tie.Need-maximum-requires Inv-loop μ-loop
 maximum-requires c κs = search needs
 
-add-names-float : tie.Need-add-names-float Inv-loop μ-loop
-add-names-float c = search needs
+add-names-lacking : tie.Need-add-names-lacking Inv-loop μ-loop
+add-names-lacking c = search needs
 
-mul-names-float : tie.Need-mul-names-float Inv-loop μ-loop
-mul-names-float c = search needs
+mul-names-lacking : tie.Need-mul-names-lacking Inv-loop μ-loop
+mul-names-lacking c = search needs
 
-array-read-names-float : tie.Need-array-read-names-float Inv-loop μ-loop
-array-read-names-float c = search needs
+array-read-names-lacking : tie.Need-array-read-names-lacking Inv-loop μ-loop
+array-read-names-lacking c = search needs
 
-names-float-requires : tie.Need-names-float-requires Inv-loop μ-loop
-names-float-requires c κs = search needs
+names-lacking-requires : tie.Need-names-lacking-requires Inv-loop μ-loop
+names-lacking-requires c κs = search needs
 
 returns-2 : tie.Need-returns-2 Inv-loop μ-loop
 returns-2 c =
     λ vs st. named-not (c .before .before .before .before .before .before .before .args .float) (maxima-of (c .before .before .before .before .before .before .before .args .row)) vs (c .before .before .before .before .loop .j)
-    (sym (named-is (c .before .before .before .before .before .before .before .args .float) (maxima-of (c .before .before .before .before .before .before .before .args .row)) vs (c .before .before .before .before .loop .j) (c .before .before .maximum .result) _ (c .before .before .before .before .before .before .if1 .left) (c .before .before .maximum .ensures) (st .here (c .before .before .before .before .loop .j) (omega arith))) ∙ sym (c .before .names-float .ensures) ∙ c .if2 .taken)
+    (sym (named-is (c .before .before .before .before .before .before .before .args .float) (maxima-of (c .before .before .before .before .before .before .before .args .row)) vs (c .before .before .before .before .loop .j) (c .before .before .maximum .result) _ (c .before .before .maximum .ensures) (st .here (c .before .before .before .before .loop .j) (omega arith))) ∙ sym (c .before .names-lacking .ensures) ∙ c .if2 .taken)
     ∙ sym (c .before .before .before .before .loop .inv .1 _ vs st)
 
 add-j : tie.Need-add-j Inv-loop μ-loop
@@ -60,7 +60,7 @@ loop-again c = (
   omega arith,
   λ n vs st. c .before .before .before .before .loop .inv .1 n vs st
       ∙ named-next (c .before .before .before .before .before .before .before .args .float) (maxima-of (c .before .before .before .before .before .before .before .args .row)) vs (c .before .before .before .before .loop .j)
-      (sym (named-is (c .before .before .before .before .before .before .before .args .float) (maxima-of (c .before .before .before .before .before .before .before .args .row)) vs (c .before .before .before .before .loop .j) (c .before .before .maximum .result) _ (c .before .before .before .before .before .before .if1 .left) (c .before .before .maximum .ensures) (st .here (c .before .before .before .before .loop .j) (omega arith))) ∙ sym (c .before .names-float .ensures) ∙ c .if2 .left),
+      (sym (named-is (c .before .before .before .before .before .before .before .args .float) (maxima-of (c .before .before .before .before .before .before .before .args .row)) vs (c .before .before .before .before .loop .j) (c .before .before .maximum .result) _ (c .before .before .maximum .ensures) (st .here (c .before .before .before .before .loop .j) (omega arith))) ∙ sym (c .before .names-lacking .ensures) ∙ c .if2 .left),
 )
 
 returns-3 : tie.Need-returns-3 Inv-loop μ-loop
@@ -78,10 +78,10 @@ has-kinds-spec =
     returns
     loop-holds
     maximum-requires
-    add-names-float
-    mul-names-float
-    array-read-names-float
-    names-float-requires
+    add-names-lacking
+    mul-names-lacking
+    array-read-names-lacking
+    names-lacking-requires
     returns-2
     add-j
     loop-less

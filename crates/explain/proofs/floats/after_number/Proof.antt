@@ -1,23 +1,26 @@
 use Prim.Native.Nat.{_≤_, _-_}
 use lib.ListN.{length}
 use borrow.Author.Needs.{needs}
-use Rattle.explain.proofs.floats.space_from.Statement.{statement}
-use Rattle.explain.proofs.floats.space_from.Tie as tie
+use Rattle.explain.proofs.floats.after_number.Statement.{statement}
+use Rattle.explain.proofs.floats.after_number.Tie as tie
 
 abbrev Inv-loop : tie.InvT-loop
-Inv-loop listing from i₀ i = from ≤ i
+Inv-loop listing at i₀ i = at ≤ i
 
 abbrev μ-loop : tie.MeasureT-loop
-μ-loop listing from i₀ i = length listing - i
+μ-loop listing at i₀ i = length listing - i
 
 loop-holds : tie.Need-loop-holds Inv-loop μ-loop
 loop-holds c = search needs
 
-shared-slice-read-if1 : tie.Need-shared-slice-read-if1 Inv-loop μ-loop
-shared-slice-read-if1 c = search needs
+shared-slice-read-b : tie.Need-shared-slice-read-b Inv-loop μ-loop
+shared-slice-read-b c = search needs
 
 returns : tie.Need-returns Inv-loop μ-loop
 returns c = search needs
+
+returns-2 : tie.Need-returns-2 Inv-loop μ-loop
+returns-2 c = search needs
 
 add-i : tie.Need-add-i Inv-loop μ-loop
 add-i c = search needs
@@ -28,19 +31,20 @@ loop-less c = search needs
 loop-again : tie.Need-loop-again Inv-loop μ-loop
 loop-again c = search needs
 
-returns-2 : tie.Need-returns-2 Inv-loop μ-loop
-returns-2 c = search needs
+returns-3 : tie.Need-returns-3 Inv-loop μ-loop
+returns-3 c = search needs
 
-pub space-from-spec : {M : Type 1} → statement M
-space-from-spec =
+pub after-number-spec : {M : Type 1} → statement M
+after-number-spec =
     tie.close
     (tie.spec
     Inv-loop
     μ-loop
     loop-holds
-    shared-slice-read-if1
+    shared-slice-read-b
     returns
+    returns-2
     add-i
     loop-less
     loop-again
-    returns-2)
+    returns-3)

@@ -1,8 +1,8 @@
 use Prim.Native.Nat.{_≤_, _-_}
 use lib.ListN.{length}
 use borrow.Author.Needs.{needs}
-use Rattle.explain.proofs.floats.stands.Statement.{statement}
-use Rattle.explain.proofs.floats.stands.Tie as tie
+use Rattle.explain.proofs.floats.after_text.Statement.{statement}
+use Rattle.explain.proofs.floats.after_text.Tie as tie
 
 abbrev Inv-loop : tie.InvT-loop
 Inv-loop listing at text i₀ j₀ i j = j ≤ length text
@@ -40,8 +40,8 @@ loop-again c = search needs
 returns-3 : tie.Need-returns-3 Inv-loop μ-loop
 returns-3 c = search needs
 
-pub stands-spec : {M : Type 1} → statement M
-stands-spec =
+pub after-text-spec : {M : Type 1} → statement M
+after-text-spec =
     tie.close
     (tie.spec
     Inv-loop
