@@ -1,7 +1,7 @@
 -- A fact that holds of each entry of a list.
-use mathlib.Core.List.{List, [], _∷_, _++_}
+use mathlib.Core.List.{List, [], _∷_, _++_, reverse, reverseAux}
 use Prim.Native.Nat.{ℕ, zero, suc}
-use lib.ListN.{getD, drop, set}
+use lib.ListN.{getD, take, drop, set}
 
 pub data Each {A : Type 0} (P : A → Type 0) : List A → Type 0 where
   nobody : Each P []
@@ -29,3 +29,15 @@ pub each-get : {A : Type 0} {P : A → Type 0} {xs : List A} (k : ℕ) (x : A) �
 each-get k x nobody p = p
 each-get zero x (both q e) p = q
 each-get (suc k) x (both q e) p = each-get k x e p
+
+pub each-take : {A : Type 0} {P : A → Type 0} (n : ℕ) {xs : List A} → Each P xs → Each P (take n xs)
+each-take zero e = nobody
+each-take (suc n) nobody = nobody
+each-take (suc n) (both p e) = both p (each-take n e)
+
+each-onto : {A : Type 0} {P : A → Type 0} {xs ys : List A} → Each P xs → Each P ys → Each P (reverseAux xs ys)
+each-onto nobody f = f
+each-onto (both p e) f = each-onto e (both p f)
+
+pub each-reverse : {A : Type 0} {P : A → Type 0} {xs : List A} → Each P xs → Each P (reverse xs)
+each-reverse e = each-onto e nobody

@@ -1,23 +1,25 @@
 -- 02, S-1: "Then kind 5 has no width". Each way in which the walk makes a state, from states without a scalar of a kind that the module lacks, gives
--- such a state, and so no width of that kind is asked for. That all its states are so follows by its definition, and is not stated.
-use mathlib.Core.Path.{_≡_, refl, sym, subst}
+-- such a state; and on such a state one instruction is the same whatever width floats had. Widthless says it of the walk.
+use mathlib.Core.Path.{_≡_, refl, sym, ap, subst}
 use mathlib.Core.Bool.{Bool, true, false, not, _&&_, _||_}
 use mathlib.Core.Option.{Option, none, some}
-use mathlib.Core.List.{List, [], _∷_, _++_, map}
+use mathlib.Core.List.{List, [], _∷_, _++_, map, reverse}
 use Prim.Native.Nat.{ℕ, zero, suc}
-use lib.ListN.{getD, getElem?, replicate}
+use lib.ListN.{getD, getElem?, take, replicate}
 use native.Mathlib.Omega.{arith}
 use lib.Dec.{leb, eqb}
-use Rattle.definition.specs.Basics.{choose}
-use Rattle.definition.specs.Shapes.{Shape, unknown, scalar, composite, is-lacking, same-text, if-same, join-text, join, join-all}
+use Rattle.definition.specs.Basics.{choose, saturating-add}
+use Rattle.definition.specs.Shapes.{Shape, unknown, scalar, composite, scalar-widths, is-lacking, same-text, if-same, join-text, join, join-all}
 use Rattle.definition.specs.Shapes.{Wire, top, scalarW, flatW, top-if, known-wire, from-wire}
-use Rattle.definition.specs.Instructions.{instr-at, Instr, Shaped, Sig, Chunk, Field, Elem}
+use Rattle.definition.specs.Instructions.{instr-at, Instr, Shaped, Jump, Sig, Chunk, Field, Elem}
 use Rattle.definition.specs.Ops.{instr, Op, named-kind, has-kind}
 use Rattle.definition.specs.Module.{Code, Header, Module, known-sig, known-const, no-sig, under-check}
 use Rattle.definition.specs.Effects.{Pushed, exact, shape-of, effect, const-shape, returned, returned-native, ints, with-bounds, with-flag}
-use Rattle.definition.specs.Effects.{shaped-pushes, pushes, takes, set-top, set-local, write}
-use Rattle.definition.specs.Walk.{State, with-locals, join-states, after, start-locals, params, start, forget-one, names-local, forget}
-use Rattle.theorems.specs.Each.{Each, nobody, both, each-both, each-drop, each-set, each-get}
+use Rattle.definition.specs.Effects.{shaped-pushes, pushes, needs-and-takes, jump-need, need, takes, width, packed, built-places, text-unless-enum, set-top}
+use Rattle.definition.specs.Effects.{set-local, write}
+use Rattle.definition.specs.Tests.{reading, other-tests}
+use Rattle.definition.specs.Walk.{State, Sheets, mark, tests, examine, with-locals, join-states, after, start-locals, params, start, forget-one, names-local, forget}
+use Rattle.theorems.specs.Each.{Each, nobody, both, each-both, each-drop, each-take, each-reverse, each-set, each-get}
 use Rattle.theorems.specs.Cover.{no-some}
 use Rattle.theorems.specs.Fits.{Has-kind}
 
@@ -245,3 +247,164 @@ pub code-had : (h : Header) (os : List Op) (p : ℕ) (i : Instr) → Each (Has-k
 code-had h [] p i e q = absurd (no-some (sym q))
 code-had h (o ∷ os) zero i (both x e) q = subst (λ (z : Instr). has-kind (h .float) (named-kind z) ≡ true) (let z : instr o ≡ i = cc in z) x
 code-had h (o ∷ os) (suc p) i (both x e) q = code-had h os p i e q
+
+-- ── Widths ────────────────────────────────────────────────────────────────────────────────
+
+-- a chunk with another width of floats
+abbrev pub with-float : Chunk → ℕ → Chunk
+with-float c n =
+    record {
+      word = c .word;
+      float = n;
+      address = c .address;
+      index-trap = c .index-trap;
+      host-trap = c .host-trap;
+      enum-sizes = c .enum-sizes;
+      natives = c .natives;
+      sigs = c .sigs;
+      sig = c .sig;
+      locals = c .locals;
+      consts = c .consts;
+      code = c .code;
+      base = c .base;
+    }
+
+module _ (c : Chunk) (n : ℕ) where
+  width-same : (k : ℕ) → Had 0 (scalar k) → width c k ≡ width (with-float c n) k
+  unfolding width scalar-widths is-lacking
+  width-same zero h = refl
+  width-same (suc zero) h = refl
+  width-same (suc (suc zero)) h = refl
+  width-same (suc (suc (suc zero))) h = refl
+  width-same (suc (suc (suc (suc zero)))) h = refl
+  width-same (suc (suc (suc (suc (suc zero))))) h = absurd (let z : _≡_ {A = ℕ} 0 1 = cc in omega arith)
+  width-same (suc (suc (suc (suc (suc (suc zero)))))) h = refl
+  width-same (suc (suc (suc (suc (suc (suc (suc zero))))))) h = refl
+  width-same (suc (suc (suc (suc (suc (suc (suc (suc k)))))))) h = refl
+
+  packed-same : (es : List Shape) → Each (Had 0) es → packed c es ≡ packed (with-float c n) es
+  unfolding packed
+  packed-same [] e = refl
+  packed-same (unknown ∷ es) e = refl
+  packed-same (scalar k ∷ es) (both h e) = rw (width-same k h, packed-same es e)
+  packed-same (composite k m t ∷ es) (both h e) = rw (packed-same es e)
+
+  built-same : (at : ℕ) (es : List Shape) → Each (Had 0) es → built-places c at es ≡ built-places (with-float c n) at es
+  unfolding built-places
+  built-same at [] e = refl
+  built-same at (unknown ∷ es) e = refl
+  built-same at (scalar k ∷ es) (both h e) = rw (width-same k h, built-same (saturating-add at (width (with-float c n) k)) es e)
+  built-same at (composite k m none ∷ es) e = refl
+  built-same at (composite k m (some os) ∷ es) (both h e) = rw (built-same (saturating-add at m) es e)
+
+  text-same : (k : ℕ) (es : List Shape) → Each (Had 0) es → text-unless-enum c k es ≡ text-unless-enum (with-float c n) k es
+  unfolding text-unless-enum
+  text-same k es e = rw (built-same 0 es e)
+
+  reading-same : (i : Instr) → has-kind 0 (named-kind i) ≡ true → reading c i ≡ reading (with-float c n) i
+  unfolding reading named-kind
+  reading-same (Instr.plain p a) e = refl
+  reading-same (Instr.shaped s) e = refl
+  reading-same (Instr.jump j) e = refl
+  reading-same (Instr.PopN k) e = refl
+  reading-same (Instr.SetLocal k) e = refl
+  reading-same (Instr.Call k a) e = refl
+  reading-same (Instr.NewFlat k a s) e = refl
+  reading-same (Instr.NewBoxed k a m) e = refl
+  reading-same (Instr.GetFlat o (Field.Flat at k)) e = rw (width-same k (had-kind 0 k e))
+  reading-same (Instr.GetFlat o (Field.FlatNested at s k)) e = refl
+  reading-same (Instr.GetBoxed o k) e = refl
+  reading-same (Instr.GetIndex (Elem.ElemFlat k)) e = rw (width-same k (had-kind 0 k e))
+  reading-same (Instr.GetIndex (Elem.ElemNested s k)) e = refl
+
+  other-same : (ip : ℕ) (i : Instr) (st : List Shape) → has-kind 0 (named-kind i) ≡ true → Each (Had 0) st
+      → other-tests c ip i st ≡ other-tests (with-float c n) ip i st
+  unfolding other-tests named-kind
+  other-same ip (Instr.plain p a) st e h = refl
+  other-same ip (Instr.shaped s) st e h = refl
+  other-same ip (Instr.jump j) st e h = refl
+  other-same ip (Instr.PopN k) st e h = refl
+  other-same ip (Instr.SetLocal k) st e h = refl
+  other-same ip (Instr.Call k a) st e h = refl
+  other-same ip (Instr.NewFlat k a s) st e h =
+      rw (packed-same (take a st) (each-take a h), text-same k (reverse (take a st)) (each-reverse (each-take a h)))
+  other-same ip (Instr.NewBoxed k a m) st e h = refl
+  other-same ip (Instr.GetFlat o (Field.Flat at k)) st e h = refl
+  other-same ip (Instr.GetFlat o (Field.FlatNested at s k)) st e h = refl
+  other-same ip (Instr.GetBoxed o k) st e h = refl
+  other-same ip (Instr.GetIndex (Elem.ElemFlat k)) st e h = rw (width-same k (had-kind 0 k e))
+  other-same ip (Instr.GetIndex (Elem.ElemNested s k)) st e h = refl
+
+  pushes-same : (i : Instr) (st ls : List Shape) → Each (Had 0) st → pushes c i st ls ≡ pushes (with-float c n) i st ls
+  unfolding pushes shaped-pushes
+  pushes-same (Instr.plain p a) st ls h = refl
+  pushes-same (Instr.shaped (Shaped.Const k)) st ls h = refl
+  pushes-same (Instr.shaped (Shaped.GetLocal k)) st ls h = refl
+  pushes-same (Instr.shaped (Shaped.BoundsCheck k)) st ls h = refl
+  pushes-same (Instr.shaped (Shaped.IsStruct k)) st ls h = refl
+  pushes-same (Instr.shaped (Shaped.GetDataIndexed a b)) st ls h = refl
+  pushes-same (Instr.shaped (Shaped.SetDataIndexed a b)) st ls h = refl
+  pushes-same (Instr.shaped (Shaped.Native k a)) st ls h = refl
+  pushes-same (Instr.shaped (Shaped.IsEnum a b d)) st ls h = refl
+  pushes-same (Instr.shaped Shaped.Dup) st ls h = refl
+  pushes-same (Instr.shaped Shaped.Yield) st ls h = refl
+  pushes-same (Instr.shaped Shaped.IndexBoxed) st ls h = refl
+  pushes-same (Instr.jump j) st ls h = refl
+  pushes-same (Instr.PopN k) st ls h = refl
+  pushes-same (Instr.SetLocal k) st ls h = refl
+  pushes-same (Instr.Call k a) st ls h = refl
+  pushes-same (Instr.NewFlat k a s) st ls h = rw (text-same k (reverse (take a st)) (each-reverse (each-take a h)))
+  pushes-same (Instr.NewBoxed k a m) st ls h = refl
+  pushes-same (Instr.GetFlat o (Field.Flat at k)) st ls h = refl
+  pushes-same (Instr.GetFlat o (Field.FlatNested at s k)) st ls h = refl
+  pushes-same (Instr.GetBoxed o k) st ls h = refl
+  pushes-same (Instr.GetIndex (Elem.ElemFlat k)) st ls h = refl
+  pushes-same (Instr.GetIndex (Elem.ElemNested s k)) st ls h = refl
+
+  jump-same : (j : Jump) → jump-need c j ≡ jump-need (with-float c n) j
+  unfolding jump-need
+  jump-same (Jump.If t) = refl
+  jump-same (Jump.Else t) = refl
+  jump-same (Jump.Loop t) = refl
+  jump-same (Jump.EndLoop t) = refl
+  jump-same (Jump.Break t) = refl
+  jump-same (Jump.BreakIf t) = refl
+  jump-same (Jump.Trap k) = refl
+  jump-same Jump.EndIf = refl
+  jump-same Jump.Return = refl
+  jump-same Jump.Reset = refl
+
+  needs-same : (i : Instr) → needs-and-takes c i ≡ needs-and-takes (with-float c n) i
+  needs-same (Instr.plain p a) = refl
+  needs-same (Instr.shaped s) = refl
+  needs-same (Instr.jump j) = rw (jump-same j)
+  needs-same (Instr.PopN k) = refl
+  needs-same (Instr.SetLocal k) = refl
+  needs-same (Instr.Call k a) = refl
+  needs-same (Instr.NewFlat k a s) = refl
+  needs-same (Instr.NewBoxed k a m) = refl
+  needs-same (Instr.GetFlat o f) = refl
+  needs-same (Instr.GetBoxed o k) = refl
+  needs-same (Instr.GetIndex e) = refl
+
+  need-same : (i : Instr) → need c i ≡ need (with-float c n) i
+  unfolding need
+  need-same i = ap (λ (p : ℕ × ℕ). p .0) (needs-same i)
+
+  takes-same : (i : Instr) → takes c i ≡ takes (with-float c n) i
+  unfolding takes
+  takes-same i = ap (λ (p : ℕ × ℕ). p .1) (needs-same i)
+
+  after-same : (i : Instr) (s : State) → Had-state 0 s → after c i s ≡ after (with-float c n) i s
+  unfolding after
+  after-same i s h = rw (pushes-same i (s .stack) (s .locals) (h .stack), takes-same i)
+
+  -- Without floats, an instruction's tests, its rule and its marks are the same whatever width floats had.
+  pub examine-same : (ip floor : ℕ) (i : Instr) (s : State) → has-kind 0 (named-kind i) ≡ true → Had-state 0 s
+      → examine c ip floor i s ≡ examine (with-float c n) ip floor i s
+  unfolding examine tests
+  examine-same ip floor i s e h = rw (need-same i, reading-same i e, other-same ip i (s .stack) e (h .stack), after-same i s h)
+
+  pub mark-same : (ip : ℕ) (i : Instr) (s : State) (sh : Sheets) → has-kind 0 (named-kind i) ≡ true → mark c ip i s sh ≡ mark (with-float c n) ip i s sh
+  unfolding mark
+  mark-same ip i s sh e = rw (reading-same i e)
