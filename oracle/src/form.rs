@@ -1,6 +1,5 @@
 //! The pieces of a listing's lines: words, numbers and operands, read strictly and written back.
 
-use crate::bytecode::FLOAT_TAG;
 use crate::value_layout::{CompositeKind, ScalarKind};
 
 /// What is left of a listing. Nothing of it is copied: words are slices of the listing's bytes.
@@ -87,7 +86,9 @@ number_operands!(u8, u16, u32);
 impl Operand for ScalarKind {
     fn read(cursor: &mut Cursor) -> Option<Self> {
         let tag = u8::read(cursor)?;
-        if tag == FLOAT_TAG && !cursor.has_floats {
+        // The build without floats has no rule of its own here: what its `from_tag` does not know is no kind.
+        #[cfg(feature = "floats")]
+        if tag == crate::bytecode::FLOAT_TAG && !cursor.has_floats {
             return None;
         }
         ScalarKind::from_tag(tag)
