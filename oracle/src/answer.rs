@@ -1,6 +1,6 @@
 //! The original's answer as a line of document 01, and the rule that leaves a listing out of a comparison.
 
-use crate::bytecode::{Op, TrapKind};
+use crate::bytecode::TrapKind;
 use crate::limits::Notes;
 use crate::listing::{self, Listing};
 use crate::refusal::Refusal;
@@ -20,8 +20,6 @@ pub enum Answer {
     BeyondLimit(u8),
     /// Left out: the trap codes are not the original's.
     BeyondCodes,
-    /// Left out: F is 0, and an op has a name that the original without floats lacks.
-    BeyondNames,
 }
 
 impl Answer {
@@ -31,7 +29,7 @@ impl Answer {
         match self {
             Answer::Accepted { chunks, instructions } => Some(vec![0, *chunks as u64, *instructions as u64]),
             Answer::Refused(refusal) => Some(refusal.words()),
-            Answer::BeyondLimit(_) | Answer::BeyondCodes | Answer::BeyondNames => None,
+            Answer::BeyondLimit(_) | Answer::BeyondCodes => None,
         }
     }
 }
@@ -43,7 +41,6 @@ impl fmt::Display for Answer {
             Answer::Refused(refusal) => write!(out, "{refusal}"),
             Answer::BeyondLimit(limit) => write!(out, "beyond {limit}"),
             Answer::BeyondCodes => write!(out, "beyond codes"),
-            Answer::BeyondNames => write!(out, "beyond names"),
         }
     }
 }
@@ -72,9 +69,6 @@ fn left_out(listing: &Listing) -> Option<Answer> {
     let codes = (TrapKind::IndexOutOfBounds.code(), TrapKind::HostError.code());
     if (listing.index_code, listing.host_code) != codes {
         return Some(Answer::BeyondCodes);
-    }
-    if listing.float_bytes == 0 && listing.ops().any(|op| matches!(op, Op::IntToFloat | Op::FloatToInt)) {
-        return Some(Answer::BeyondNames);
     }
     let limit = whole::check_nested(listing, &mut Notes::default()).err()?.passed_limit()?;
     Some(Answer::BeyondLimit(limit))

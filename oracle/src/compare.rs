@@ -358,7 +358,7 @@ mod tests {
     #[test]
     fn checkers_that_are_wrong_without_floats_disagree() {
         assert_eq!(disagreements_without_floats(|bytes| bytes.to_vec()), (0, 0));
-        let wrong: [(&str, fn(&[u8]) -> Vec<u8>); 7] = [
+        let wrong: [(&str, fn(&[u8]) -> Vec<u8>); 9] = [
             ("a first line that is refused", |bytes| twins::with_float_bytes(bytes, 3)),
             ("floats of 8 bytes", |bytes| twins::with_float_bytes(bytes, 8)),
             ("a constant that is a scalar", |bytes| replaced(bytes, "(const 5)", "(const 0)")),
@@ -372,6 +372,8 @@ mod tests {
                 };
                 lines.flat_map(of_kind_0).collect()
             }),
+            ("no name IntToFloat", |bytes| replaced(bytes, "(op IntToFloat)", "(op FixedToFloat)")),
+            ("a FloatToInt that pushes one more", |bytes| replaced(bytes, "(op FloatToInt)", "(op Dup)")),
             ("an op of kind 5 that is read", |bytes| {
                 let twin = twins::with_float_bytes(bytes, 8);
                 if listing::read(bytes).is_err() && listing::read(&twin).is_ok() { twin } else { bytes.to_vec() }

@@ -176,18 +176,14 @@ fn program(random: &mut Random, scope: Scope) -> Listing {
         let chunk = builder::chunk(random, &listing, number, plan);
         listing.module.chunks.push(chunk);
     }
-    if scope.twin.is_some() {
-        match random.below(100) {
-            0..10 => append_float_op(random, &mut listing),
-            10..90 => rename_float_ops(&mut listing),
-            _ => {}
-        }
+    if scope.twin.is_some() && random.chance(10) {
+        append_float_op(random, &mut listing);
     }
     listing
 }
 
-/// Puts an op that names kind 5 or that the original without floats lacks at the end of a chunk. Where the chunk ends with a
-/// Return, it is not examined.
+/// Puts an op that names kind 5, or floats by its own name, at the end of a chunk. Where the chunk ends with a Return, it is
+/// not examined.
 fn append_float_op(random: &mut Random, listing: &mut Listing) {
     let kind = ScalarKind::Float;
     let offset = random.word();
@@ -201,18 +197,6 @@ fn append_float_op(random: &mut Random, listing: &mut Listing) {
     ]);
     let chunk = random.below(listing.module.chunks.len());
     listing.module.chunks[chunk].ops.push(op);
-}
-
-/// Names that the original without floats has, for the two that it lacks: a listing that names those is not compared with
-/// it. Need and net, and what they push, are the same.
-fn rename_float_ops(listing: &mut Listing) {
-    for op in listing.module.chunks.iter_mut().flat_map(|chunk| &mut chunk.ops) {
-        match op {
-            Op::IntToFloat => *op = Op::Neg,
-            Op::FloatToInt => *op = Op::Not,
-            _ => {}
-        }
-    }
 }
 
 /// Takes a last argument `small` off a program's arguments.

@@ -85,7 +85,6 @@ impl Survey {
         };
         match answer::answer_nested(listing) {
             Answer::BeyondCodes => count(&mut self.answers, "left out: other trap codes"),
-            Answer::BeyondNames => count(&mut self.answers, "left out: names of floats with F 0"),
             Answer::BeyondLimit(limit) => count(&mut self.answers, &format!("left out: limit {limit}")),
             original => {
                 self.without_floats += u64::from(listing.float_bytes == 0);
@@ -255,7 +254,6 @@ fn loop_with(passes: usize) -> String {
 pub fn wanted(size: Size) -> Vec<String> {
     let mut wanted = answers_compared(size);
     wanted.extend(["left out: limit 5", "left out: limit 6", "left out: other trap codes"].map(String::from));
-    wanted.push("left out: names of floats with F 0".to_string());
     wanted.extend(wanted_forms());
     wanted.extend(WANTED_NOTES.iter().chain(twins::PLACES).map(|what| what.to_string()));
     // A small listing has not the bytes for tables of many lines, nor for two arms with a composite each.
