@@ -1,8 +1,8 @@
 -- 02, S-1: "Then kind 5 has no width". Without floats the walk of a chunk is the same whatever width they had: answer, sheets and states.
-use mathlib.Core.Path.{_≡_, refl, sym, ap, subst}
+use mathlib.Core.Path.{_≡_, refl, sym, subst}
 use mathlib.Core.Bool.{Bool, true, false}
 use mathlib.Core.Option.{Option, none, some}
-use mathlib.Core.List.{List, map}
+use mathlib.Core.List.{List}
 use Prim.Native.Nat.{ℕ, zero, suc, _+_, _-_}
 use lib.ListN.{length, getElem?}
 use lib.Dec.{eqb, ltb}
@@ -11,14 +11,14 @@ use Rattle.definition.specs.Shapes.{Shape, join-all, same-shapes}
 use Rattle.definition.specs.Instructions.{instr-at, control-at, control, Instr, Control, Chunk}
 use Rattle.definition.specs.Ops.{named-kind, has-kind}
 use Rattle.definition.specs.Module.{Code, Module, under-check}
-use Rattle.definition.specs.Nesting.{else-at, else-if, else-of}
+use Rattle.definition.specs.Nesting.{else-at}
 use Rattle.definition.specs.Walk.{State, Sheets, height, with-locals, Breaks, no-break, joined, unequal, add-joined, add-break, mark, examine, after, tests}
 use Rattle.definition.specs.Walk.{Walked, Walker, join-tested, join-ends, go-on, walk-arms, Left, forget-one, names-local, forget, leave, neutral, if-stable}
 use Rattle.definition.specs.Walk.{pass-end, last-end, passes, walk-instr, walk-instr?, stretch, walk, params, start, walk-chunk}
 use Rattle.theorems.specs.Each.{Each}
 use Rattle.theorems.specs.Cover.{no-ok, ok-inj, pass-ok}
 use Rattle.theorems.specs.Fits.{Has-kind}
-use Rattle.theorems.specs.Lacking.{Had, Known, Had-state, had-start, had-after, had-joined, had-widen, had-forget, chunk-known, code-had, with-float}
+use Rattle.theorems.specs.Lacking.{Known, Had-state, had-start, had-after, had-joined, had-widen, had-forget, chunk-known, code-had, with-float}
 use Rattle.theorems.specs.Lacking.{examine-same, mark-same}
 
 -- ── Results that are the same, and what holds of them ─────────────────────────────────────
