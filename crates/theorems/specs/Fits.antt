@@ -508,18 +508,12 @@ not-true true e = absurd (no-false e)
 not-true false e = refl
 
 -- a line other than the first follows only after it
-after-first : (a b p q r : ℕ) → provided (within (suc a) b p) q ≡ some r → 1 ≤ p
+past-first : (a b p : ℕ) → within (suc a) b p ≡ true → 1 ≤ p
 unfolding within
-after-first a b p q r e =
-    let t = and-true (leb (suc a) p) (leb p b) (provided-some (leb (suc a) p && leb p b) q r e .0) in
-    omega (arith, leb→le (suc a) p (T-of (t .0)))
+past-first a b p e = omega (arith, leb→le (suc a) p (T-of (and-true (leb (suc a) p) (leb p b) e .0)))
 
-after-first-and : (x : Bool) (a b p q r : ℕ) → provided (within (suc a) b p && x) q ≡ some r → 1 ≤ p
-unfolding within
-after-first-and x a b p q r e =
-    let s = and-true (within (suc a) b p) x (provided-some (within (suc a) b p && x) q r e .0) in
-    let t = and-true (leb (suc a) p) (leb p b) (s .0) in
-    omega (arith, leb→le (suc a) p (T-of (t .0)))
+after-first : (a b p q r : ℕ) → provided (within (suc a) b p) q ≡ some r → 1 ≤ p
+after-first a b p q r e = past-first a b p (provided-some (within (suc a) b p) q r e .0)
 
 header-more : (r : Reader) (l : Line) (q : ℕ) → follow (r .so-far .header) (r .place) l ≡ some q → Line-fits l → Reader-fits r →
     Header-fits (add (r .so-far) l .header) × (add (r .so-far) l .header .index-trap ≢ add (r .so-far) l .header .host-trap)
@@ -535,7 +529,7 @@ header-more r (native-line w) q e f g = g .header (after-first 0 5 (r .place) 5 
 header-more r (sig-line s) q e f g = g .header (after-first 0 6 (r .place) 6 q e)
 header-more r (chunk-line n) q e f g = g .header (after-first 0 7 (r .place) 8 q e)
 header-more r (const-line k) q e f g = g .header (after-first 7 8 (r .place) 8 q e)
-header-more r (op-line o) q e f g = g .header (after-first-and _ 7 9 (r .place) 9 q e)
+header-more r (op-line o) q e f g = g .header (past-first 7 9 (r .place) (and-true (within 8 9 (r .place)) _ (provided-some _ 9 q e .0) .0))
 header-more r close-line q e f g = g .header (after-first 0 9 (r .place) _ q e)
 
 or-line-ok : {A : Type 0} (n : ℕ) (o : Option A) (a : A) → or-line n o ≡ ok a → o ≡ some a

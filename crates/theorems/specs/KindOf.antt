@@ -36,6 +36,10 @@ pub record With-floats (float : ℕ) : Type 0 where
   pub ops : (i : Instr) → has-kind float (named-kind i) ≡ true
   pub chunks : (m : Module) (k base : ℕ) (c : Code) → m .header .float ≡ float → As-listed m k c (under-check m k base c)
 
+map-same : {A : Type 0} {f : A → A} → ((a : A) → f a ≡ a) → (xs : List A) → map f xs ≡ xs
+map-same h [] = refl
+map-same h (x ∷ xs) = rw (h x, map-same h xs)
+
 module _ (float : ℕ) (n : float ≢ 0) where
   no-kind : (k : ℕ) → is-lacking float k ≡ false
   unfolding is-lacking
@@ -47,13 +51,9 @@ module _ (float : ℕ) (n : float ≢ 0) where
   same-wire (scalarW k) = rw (no-kind k)
   same-wire (flatW k s) = refl
 
-  same-wires : (ws : List Wire) → map (known-wire float) ws ≡ ws
-  same-wires [] = refl
-  same-wires (w ∷ ws) = rw (same-wire w, same-wires ws)
-
   same-sig : (g : Sig) → known-sig float g ≡ g
   unfolding known-sig
-  same-sig g = rw (same-wire (g .ret), same-wire (g .resume), same-wires (g .params))
+  same-sig g = rw (same-wire (g .ret), same-wire (g .resume), map-same same-wire (g .params))
 
   same-const : (k : ℕ) → known-const float k ≡ k
   unfolding known-const choose
@@ -68,22 +68,14 @@ module _ (float : ℕ) (n : float ≢ 0) where
   no-op none = refl
   no-op (some k) = rw (no-kind k)
 
-  same-sigs : (gs : List Sig) → map (known-sig float) gs ≡ gs
-  same-sigs [] = refl
-  same-sigs (g ∷ gs) = rw (same-sig g, same-sigs gs)
-
-  same-consts : (ks : List ℕ) → map (known-const float) ks ≡ ks
-  same-consts [] = refl
-  same-consts (k ∷ ks) = rw (same-const k, same-consts ks)
-
   same-chunk : (m : Module) (k base : ℕ) (c : Code) → m .header .float ≡ float → As-listed m k c (under-check m k base c)
   unfolding under-check
   same-chunk m k base c e =
       record {
-        natives = rw e (same-wires (m .natives));
-        sigs = rw e (same-sigs (m .sigs));
+        natives = rw e (map-same same-wire (m .natives));
+        sigs = rw e (map-same same-sig (m .sigs));
         sig = rw e (same-sig (getD (m .sigs) k no-sig));
-        consts = rw e (same-consts (c .consts));
+        consts = rw e (map-same same-const (c .consts));
       }
 
   pub with-floats : With-floats float

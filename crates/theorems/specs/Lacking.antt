@@ -2,24 +2,25 @@
 -- such a state; and on such a state one instruction is the same whatever width floats had. Widthless says it of the walk.
 use mathlib.Core.Path.{_≡_, refl, sym, ap, subst}
 use mathlib.Core.Bool.{Bool, true, false, not, _&&_, _||_}
-use mathlib.Core.Option.{Option, none, some}
-use mathlib.Core.List.{List, [], _∷_, _++_, map, reverse}
+use mathlib.Core.Option.{none, some}
+use mathlib.Core.List.{List, [], _∷_, map, reverse}
 use Prim.Native.Nat.{ℕ, zero, suc}
-use lib.ListN.{getD, getElem?, take, replicate}
+use lib.ListN.{getD, getElem?, take}
 use native.Mathlib.Omega.{arith}
 use lib.Dec.{leb, eqb}
 use Rattle.definition.specs.Basics.{choose, saturating-add}
 use Rattle.definition.specs.Shapes.{Shape, unknown, scalar, composite, scalar-widths, is-lacking, same-text, if-same, join-text, join, join-all}
 use Rattle.definition.specs.Shapes.{Wire, top, scalarW, flatW, top-if, known-wire, from-wire}
-use Rattle.definition.specs.Instructions.{instr-at, Instr, Shaped, Jump, Sig, Chunk, Field, Elem}
+use Rattle.definition.specs.Instructions.{Instr, Shaped, Jump, Sig, Chunk, Field, Elem}
 use Rattle.definition.specs.Ops.{instr, Op, named-kind, has-kind}
 use Rattle.definition.specs.Module.{Code, Header, Module, known-sig, known-const, no-sig, under-check}
-use Rattle.definition.specs.Effects.{Pushed, exact, shape-of, effect, const-shape, returned, returned-native, ints, with-bounds, with-flag}
-use Rattle.definition.specs.Effects.{shaped-pushes, pushes, needs-and-takes, jump-need, need, takes, width, packed, built-places, text-unless-enum, set-top}
-use Rattle.definition.specs.Effects.{set-local, write}
+use Rattle.definition.specs.Effects.{exact, shape-of, effect, const-shape, returned, returned-native}
+use Rattle.definition.specs.Effects.{shaped-pushes, pushes, needs-and-takes, jump-need, need, takes, width, packed, built-places, text-unless-enum}
+use Rattle.definition.specs.Effects.{set-local}
 use Rattle.definition.specs.Tests.{reading, other-tests}
-use Rattle.definition.specs.Walk.{State, Sheets, mark, tests, examine, with-locals, join-states, after, start-locals, params, start, forget-one, names-local, forget}
-use Rattle.theorems.specs.Each.{Each, nobody, both, each-both, each-drop, each-take, each-reverse, each-set, each-get}
+use Rattle.definition.specs.Walk.{State, Sheets, mark, tests, examine, with-locals, join-states, after, start-locals, params, start, forget}
+use Rattle.theorems.specs.Each.{Each, nobody, both, each-both, each-drop, each-take, each-reverse}
+use Rattle.theorems.specs.Kept.{Kept, kept-joins, kept-start, kept-write, kept-forget, kept-unknowns, kept-bounds, kept-shaped}
 use Rattle.theorems.specs.Cover.{no-some}
 use Rattle.theorems.specs.Fits.{Has-kind}
 
@@ -112,65 +113,21 @@ module _ (float : ℕ) where
   had-constant (k ∷ ks) zero = had-const k
   had-constant (k ∷ ks) (suc j) = had-constant ks j
 
-  had-params : (n : ℕ) (ws : List Wire) → Each Had (start-locals n (map from-wire (map (known-wire float) ws)))
-  unfolding start-locals
-  had-params zero ws = nobody
-  had-params (suc n) [] = both tt (had-params n [])
-  had-params (suc n) (w ∷ ws) = both (had-wire w) (had-params n ws)
+  had-wires : (ws : List Wire) → Each Had (map from-wire (map (known-wire float) ws))
+  had-wires [] = nobody
+  had-wires (w ∷ ws) = both (had-wire w) (had-wires ws)
+
+  had-kept : Kept Had
+  had-kept = record { any = tt; bool = had-small 1 refl; int = had-small 3 refl; joins = had-join }
 
   -- ── One instruction ───────────────────────────────────────────────────────────────────────
 
-  had-joins : {l : List Shape} (m : List Shape) → Each Had l → Each Had (join-all l m)
-  unfolding join-all
-  had-joins m nobody = nobody
-  had-joins [] (both x r) = nobody
-  had-joins (y ∷ ys) (both {x = s} x r) = both (had-join s y x) (had-joins ys r)
-
-  had-unknowns : (n : ℕ) → Each Had (map shape-of (replicate n (exact unknown)))
-  unfolding shape-of
-  had-unknowns zero = nobody
-  had-unknowns (suc n) = both tt (had-unknowns n)
-
-  had-ints : (n : ℕ) (ps : List Pushed) → Each Had (map shape-of ps) → Each Had (map shape-of (ints n ++ ps))
-  unfolding shape-of
-  had-ints zero ps h = h
-  had-ints (suc n) ps h = both (had-small 3 refl) (had-ints n ps h)
-
-  only-ints : (n : ℕ) → Each Had (map shape-of (ints n))
-  unfolding shape-of
-  only-ints zero = nobody
-  only-ints (suc n) = both (had-small 3 refl) (only-ints n)
-
-  had-bounds : (t : Bool) (p : Pushed) → Had (shape-of p) → Each Had (map shape-of (with-bounds t p))
-  unfolding with-bounds
-  had-bounds true p h = had-ints 6 (p ∷ []) (both h nobody)
-  had-bounds false p h = both h nobody
-
-  had-flag : (t : Bool) (p : Pushed) → Had (shape-of p) → Each Had (map shape-of (with-flag t p))
-  unfolding with-flag
-  had-flag true p h = had-ints 1 (p ∷ []) (both h nobody)
-  had-flag false p h = both h nobody
-
   module _ (c : Chunk) (K : Known c) where
-    had-shaped : (i : Shaped) (st ls : List Shape) → Each Had st → Each Had ls → Each Had (map shape-of (shaped-pushes c i st ls))
-    unfolding shaped-pushes shape-of
-    had-shaped (Shaped.Const k) st ls x y = both (K .consts k) nobody
-    had-shaped (Shaped.GetLocal k) st ls x y = both (each-get k unknown y tt) nobody
-    had-shaped (Shaped.BoundsCheck k) st ls x y = only-ints 5
-    had-shaped (Shaped.IsStruct k) st ls x y = both (had-small 1 refl) nobody
-    had-shaped (Shaped.GetDataIndexed a b) st ls x y = had-ints 6 (exact unknown ∷ []) (both tt nobody)
-    had-shaped (Shaped.SetDataIndexed a b) st ls x y = only-ints 6
-    had-shaped (Shaped.Native k n) st ls x y = had-flag (leb 128 n) (returned-native (getElem? (c .natives) k)) (K .natives k)
-    had-shaped (Shaped.IsEnum a b d) st ls x y = both (had-small 1 refl) nobody
-    had-shaped Shaped.Dup st ls x y = both (each-get 0 unknown x tt) nobody
-    had-shaped Shaped.Yield st ls x y = both (K .resume) nobody
-    had-shaped Shaped.IndexBoxed st ls x y = had-bounds true (exact unknown) tt
-
     had-pushes : (i : Instr) (st ls : List Shape) → has-kind float (named-kind i) ≡ true → Each Had st → Each Had ls
         → Each Had (map shape-of (pushes c i st ls))
     unfolding pushes named-kind shape-of
-    had-pushes (Instr.plain p a) st ls e x y = had-unknowns (effect p .1)
-    had-pushes (Instr.shaped i) st ls e x y = had-shaped i st ls x y
+    had-pushes (Instr.plain p a) st ls e x y = kept-unknowns Had had-kept (effect p .1)
+    had-pushes (Instr.shaped i) st ls e x y = kept-shaped Had had-kept c (K .consts) (K .natives) (K .resume) i x y
     had-pushes (Instr.jump j) st ls e x y = nobody
     had-pushes (Instr.PopN n) st ls e x y = nobody
     had-pushes (Instr.SetLocal k) st ls e x y = nobody
@@ -180,14 +137,8 @@ module _ (float : ℕ) where
     had-pushes (Instr.GetFlat o (Field.Flat at k)) st ls e x y = both (had-kind k e) nobody
     had-pushes (Instr.GetFlat o (Field.FlatNested at n k)) st ls e x y = both tt nobody
     had-pushes (Instr.GetBoxed o n) st ls e x y = both tt nobody
-    had-pushes (Instr.GetIndex (Elem.ElemFlat k)) st ls e x y = had-bounds (eqb k 2 || eqb k 3) (exact (scalar k)) (had-kind k e)
-    had-pushes (Instr.GetIndex (Elem.ElemNested n k)) st ls e x y = had-bounds true _ tt
-
-  had-write : (o : Option ℕ) (st ls : List Shape) → Each Had st → Each Had ls → Each Had (write o st ls)
-  unfolding write set-top
-  had-write none st ls x y = y
-  had-write (some k) [] ls x y = y
-  had-write (some k) (s ∷ st) ls (both h r) y = each-set k s y h
+    had-pushes (Instr.GetIndex (Elem.ElemFlat k)) st ls e x y = kept-bounds Had had-kept (eqb k 2 || eqb k 3) (exact (scalar k)) (had-kind k e)
+    had-pushes (Instr.GetIndex (Elem.ElemNested n k)) st ls e x y = kept-bounds Had had-kept true _ tt
 
   -- ── States ────────────────────────────────────────────────────────────────────────────────
 
@@ -204,27 +155,18 @@ module _ (float : ℕ) where
   had-after c i s K e h =
       record {
         stack = each-both (had-pushes c K i (s .stack) (s .locals) e (h .stack) (h .locals)) (each-drop (takes c i) (h .stack));
-        locals = had-write (set-local i) (s .stack) (s .locals) (h .stack) (h .locals);
+        locals = kept-write Had had-kept (set-local i) (h .stack) (h .locals);
       }
 
   pub had-joined : (a b : State) → Had-state a → Had-state (join-states a b)
-  had-joined a b h = record { stack = had-joins (b .stack) (h .stack); locals = had-joins (b .locals) (h .locals) }
+  had-joined a b h = record { stack = kept-joins Had had-kept (b .stack) (h .stack); locals = kept-joins Had had-kept (b .locals) (h .locals) }
 
   -- from a head to the next: its locals joined with others, or forgotten
   pub had-widen : (s : State) (ls : List Shape) → Had-state s → Had-state (with-locals s (join-all (s .locals) ls))
-  had-widen s ls h = record { stack = h .stack; locals = had-joins ls (h .locals) }
-
-  forget-had : (c : Chunk) (p n : ℕ) (ls : List Shape) → Each Had ls → Each Had (forget c p n ls)
-  unfolding forget forget-one
-  forget-had c p zero ls h = h
-  forget-had c p (suc n) ls h = forget-had c (suc p) n (forget-one (names-local (instr-at c p)) ls) (one (names-local (instr-at c p)) h)
-    where
-      one : (o : Option ℕ) {ls : List Shape} → Each Had ls → Each Had (forget-one o ls)
-      one none h = h
-      one (some k) h = each-set k unknown h tt
+  had-widen s ls h = record { stack = h .stack; locals = kept-joins Had had-kept ls (h .locals) }
 
   pub had-forget : (c : Chunk) (p n : ℕ) (s : State) → Had-state s → Had-state (with-locals s (forget c p n (s .locals)))
-  had-forget c p n s h = record { stack = h .stack; locals = forget-had c p n (s .locals) (h .locals) }
+  had-forget c p n s h = record { stack = h .stack; locals = kept-forget Had had-kept c p n (h .locals) }
 
 -- ── A module ──────────────────────────────────────────────────────────────────────────────
 
@@ -237,7 +179,7 @@ chunk-known m k base c =
       natives = had-native f (m .natives);
       results = had-result f (m .sigs);
       resume = had-wire f (getD (m .sigs) k no-sig .resume);
-      params = had-params f (c .locals) (getD (m .sigs) k no-sig .params);
+      params = kept-start (Had f) (had-kept f) (c .locals) (had-wires f (getD (m .sigs) k no-sig .params));
       consts = had-constant f (c .consts);
     }
 
