@@ -20,14 +20,14 @@ use Rattle.definition.specs.Module.{Module, Code}
 use Rattle.definition.specs.Read.{Line, first-line, slot-line, shared-line, private-line, enum-line, native-line, sig-line, chunk-line, const-line}
 use Rattle.definition.specs.Read.{op-line, close-line, line-forms, op-forms, read-line, limits, has-room, add, add-const, add-op, to-last, Reader, at-start}
 use Rattle.definition.specs.Read.{or-line, next-line, follow, Lines, line, end, cut, read-lines, read}
+use Rattle.theorems.specs.Rendered.{Values, at-values}
 use Rattle.bytecode.specs.Lists.{All}
 use Rattle.bytecode.specs.Meaning.{maxima-in, maxima-of}
 use Rattle.bytecode.specs.Fits.{WireFits, HeaderFits, SharedFits, PrivateFits, SigFits, Within, OpFits, ConstFits, EnumFits, CodeFits, ModuleFits}
-use Rattle.listing.specs.Agree.{Vals, apply}
 
 -- ── Values ────────────────────────────────────────────────────────────────────────────────
 
-abbrev Values-fit : (is : List Item) → Vals is → Type 0
+abbrev Values-fit : (is : List Item) → Values is → Type 0
 Values-fit [] v = Unit {0}
 Values-fit (text s ∷ is) v = Values-fit is v
 Values-fit (number m ∷ is) v = (v .0 ≤ m) × Values-fit is (v .1)
@@ -94,8 +94,8 @@ module _ (reader : Shape-reader) (good : (bs : Bytes) (r : Wire × Bytes) → re
 
   -- What a form makes of values that fit.
   pub parse-fits : {A : Type 0} (is : List Item) (f : Maker is A) (bs : Bytes) (r : A × Bytes) → parse reader is f bs ≡ some r
-      → (v : Vals is) × Values-fit is v × (r .0 ≡ apply is f v)
-  unfolding parse apply
+      → (v : Values is) × Values-fit is v × (r .0 ≡ at-values is f v)
+  unfolding parse
   parse-fits [] f bs r e = (tt, tt, cc)
   parse-fits (text s ∷ is) f bs r e =
       let p = then-some (strip (bytes s) bs) _ r e in
@@ -125,7 +125,7 @@ module _ (reader : Shape-reader) (good : (bs : Bytes) (r : Wire × Bytes) → re
 
 abbrev Makes-fitting : {A : Type 0} → (A → Type 0) → List (Form A) → Type 0
 Makes-fitting P [] = Unit {0}
-Makes-fitting P (f ∷ fs) = ((v : Vals (f .items)) → Values-fit (f .items) v → P (apply (f .items) (f .make) v)) × Makes-fitting P fs
+Makes-fitting P (f ∷ fs) = ((v : Values (f .items)) → Values-fit (f .items) v → P (at-values (f .items) (f .make) v)) × Makes-fitting P fs
 
 none-good : (bs : Bytes) (r : Wire × Bytes) → none ≡ some r → WireFits (r .0)
 none-good bs r e = absurd (no-some e)
@@ -145,7 +145,7 @@ front-fits (f ∷ fs) bs r m e = go (parse (λ b. none) (f .items) (f .make) bs)
         subst (λ (y : Wire × Bytes). WireFits (y .0)) k (subst WireFits (sym (q .2)) (m .0 (q .0) (q .1)))
 
 shape-fits : (bs : Bytes) (r : Wire × Bytes) → shape-at bs ≡ some r → WireFits (r .0)
-unfolding shape-at shape-forms form apply
+unfolding shape-at shape-forms form
 shape-fits bs r e = front-fits shape-forms bs r (λ v f. tt, (λ v f. f .0, (λ v f. (f .0, f .1 .0), tt))) e
 
 -- ── Lines ─────────────────────────────────────────────────────────────────────────────────
@@ -180,7 +180,7 @@ member-small m x (y ∷ ys) a t = go (eqb x y) refl t (λ u. member-small m x ys
     go false e t ih = ih t
 
 lines-fit : Makes-fitting LineFits line-forms
-unfolding line-forms form apply all-small
+unfolding line-forms form all-small
 lines-fit = (
   λ v f. record {
     word = member-small 8 _ (1 ∷ 2 ∷ 4 ∷ 8 ∷ []) tt (f .0);
@@ -217,7 +217,7 @@ lines-fit = (
 
 ops-fit : (n : ℕ) (rs : List Row) → n + length rs ≡ 75 → ((i : ℕ) → i < length rs → getD (map maxima-in rs) i [] ≡ maxima-of (n + i))
     → Makes-fitting LineFits (op-forms n rs)
-unfolding op-forms form apply
+unfolding op-forms form
 ops-fit n [] l mx = tt
 ops-fit n (r ∷ rs) l mx = (
   λ v f.

@@ -19,13 +19,14 @@ use Rattle.definition.specs.Ops.{Row, ops, Op, row, instr, named-kind, has-kind
 use Rattle.definition.specs.Module.{Header, Module, all-consts, all-ops}
 use Rattle.definition.specs.Read.{Line, op-line, line-forms, op-forms, within, follow, limits, has-room}
 use Rattle.theorems.specs.KindOf.{has-kinds, kinds-by-maxima}
+use Rattle.theorems.specs.Rendered.{Values, at-values}
 use Rattle.bytecode.specs.Tables.{cap}
 use Rattle.bytecode.specs.Meaning.{maxima-of}
 use Rattle.bytecode.specs.Operands.{row-of}
 use Rattle.bytecode.specs.Held.{wire-word, kind, words, length-map, header-words, slot-words, shared-words, private-words, one-word, native-words}
 use Rattle.bytecode.specs.Held.{sig-words, chunk-words, op-words}
 use Rattle.listing.specs.Scan.{max-code, among-code, codes, admitted, item, one, Words, scan, forms, form-codes}
-use Rattle.listing.specs.Agree.{Vals, apply, as-words, ascii, known-max, known-all, Known, Agree, agree}
+use Rattle.listing.specs.Agree.{as-words, ascii, known-max, known-all, Known, Agree, agree}
 
 -- ── What is read off a form's number ──────────────────────────────────────────────────────
 
@@ -98,7 +99,7 @@ pub record Fits (l : Line) (f : ℕ) (vs : List ℕ) : Type 0 where
 
 pub record Right (f : ℕ) (fm : Form Line) : Type 0 where
   pub known : Known (fm .items)
-  pub fits : (v : Vals (fm .items)) → Fits (apply (fm .items) (fm .make) v) f (as-words (fm .items) v)
+  pub fits : (v : Values (fm .items)) → Fits (at-values (fm .items) (fm .make) v) f (as-words (fm .items) v)
 
 abbrev pub All-right : ℕ → List (Form Line) → Type 0
 All-right n [] = Unit {0}
@@ -127,7 +128,7 @@ sig-limit o a b ps =
     (ap (λ (x : Bool). first o (unless x (2 ∷ 0 ∷ 0 ∷ 2 ∷ []))) (sym (leb·suc-suc (suc (length ps)) 17 ∙ leb·suc-suc (length ps) 16)))
 
 pub line-fits : All-right 0 line-forms
-unfolding line-forms form Known known-max is-member ascii bytes admitted among-code choose item apply as-words kind form-kind words row-words head-word tail-words header-words slot-words shared-words private-words one-word native-words sig-words chunk-words follow may-stand place-after may-say limits has-room counts cap own-limit first unless
+unfolding line-forms form Known known-max is-member ascii bytes admitted among-code choose item as-words kind form-kind words row-words head-word tail-words header-words slot-words shared-words private-words one-word native-words sig-words chunk-words follow may-stand place-after may-say limits has-room counts cap own-limit first unless
 line-fits = (
   record { known = (tt, (λ n. refl, λ b. refl, (λ n. refl, λ b. refl, (λ n. refl, λ b. refl, (tt, (tt, (tt, (tt, tt)))))))); fits = λ v. record { table = refl; row = λ m b. refl; follows = λ h p. refl; limited = λ m b. refl; unlimited = λ m e. absurd (omega arith); short = λ a b. omega arith; single = λ e. absurd (omega arith) } },
   (
@@ -252,7 +253,7 @@ module _ (bs : Bytes) (k : ℕ) (fs : List (Form Line)) (en : Form-at k k fs) wh
       let d : e .1 ≡ b ∷ rest = ap (λ (x : List ℕ × Bytes). x .1) q in
       skipped
       (ap (λ (o : Option (Line × Bytes)). o and-then nothing-after) (e .2)
-      ∙ ap (λ (r : Bytes). nothing-after (apply (en .this .items) (en .this .make) (e .0), r)) d)) agreed
+      ∙ ap (λ (r : Bytes). nothing-after (at-values (en .this .items) (en .this .make) (e .0), r)) d)) agreed
 
   pub tried-all : (vs : List ℕ) → scan (codes (en .this .items)) bs ≡ some (vs, []) → (l : Line) × (whole shape-at (drop k fs) bs ≡ some l) × Fits l k vs
   unfolding Agree whole _and-then_ nothing-after outcome
@@ -262,7 +263,7 @@ module _ (bs : Bytes) (k : ℕ) (fs : List (Form Line)) (en : Form-at k k fs) wh
       let q : _≡_ {A = List ℕ × Bytes} (as-words (en .this .items) (e .0), e .1) (vs, []) = cc in
       let d : e .1 ≡ [] = ap (λ (x : List ℕ × Bytes). x .1) q in
       let w : as-words (en .this .items) (e .0) ≡ vs = ap (λ (x : List ℕ × Bytes). x .0) q in
-      let l : Line = apply (en .this .items) (en .this .make) (e .0) in (
+      let l : Line = at-values (en .this .items) (en .this .make) (e .0) in (
         l,
         rw (en .here)
             (at-first _ _ l

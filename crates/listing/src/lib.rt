@@ -33,9 +33,10 @@ ghost use Rattle.listing.specs.Rows.{Rowed, Stored, left, shapes-over, v
 ghost use Rattle.listing.specs.Shape.{end-at, top-at, scalar-at, flat-at};
 ghost use Rattle.listing.specs.Num.{result, after, at-most};
 
-mod form;
+pub mod form;
 mod place;
-mod sort;
+pub mod sort;
+pub mod words;
 
 // The forms of all lines but ops as bytes, 16 to each, filled up with LF; specs/Scan.antt says what a byte stands for.
 const FORMATS: [u8; 176] = *b"(module\x83\x88\x84\x82\x82\x81\x81\n\n\
@@ -57,13 +58,13 @@ pub enum Num {
 }
 
 // The forms, to be lent: an array that is a constant is made anew where it is named.
-fn line_formats() -> [u8; 176]
+pub fn line_formats() -> [u8; 176]
     ensures { λ r. ⌜ r ≡ formats ⌝ }
 {
     FORMATS
 }
 
-fn format_at(table: &[u8; 176], j: usize) -> u8
+pub fn format_at(table: &[u8; 176], j: usize) -> u8
     requires { ⌜ (now table ≡ formats) × (j < 176) ⌝ }
     ensures { λ r. ⌜ r ≡ getD formats j 0 ⌝ }
 {
@@ -149,7 +150,7 @@ fn digits(s: &[u8], at: usize) -> Num
 }
 
 // The numbers that a code admits.
-fn admits(c: u8, n: u64) -> bool
+pub fn admits(c: u8, n: u64) -> bool
     ensures { λ r. ⌜ r ≡ admitted c n ⌝ }
 {
     match c {
@@ -254,7 +255,7 @@ fn text(s: &[u8], at: usize, t: &[u8]) -> Num
 fn closed(s: &[u8], i: usize, v: u64) -> Num
     ensures { λ r. ⌜ result (now (s .entry)) r ≡ end-at v (drop i (now (s .entry))) ⌝ }
 {
-    let Num::Read(_, e) = text(s, i, b")") else {
+    let Num::Read(_, e) = text(s, i, &words::CLOSE) else {
         return Num::Bad;
     };
     Num::Read(v, e)
@@ -263,7 +264,7 @@ fn closed(s: &[u8], i: usize, v: u64) -> Num
 fn shape_top(s: &[u8], i: usize) -> Num
     ensures { λ r. ⌜ result (now (s .entry)) r ≡ top-at (drop i (now (s .entry))) ⌝ }
 {
-    let Num::Read(_, e) = text(s, i, b" (top)") else {
+    let Num::Read(_, e) = text(s, i, &words::TOP) else {
         return Num::Bad;
     };
     Num::Read(0, e)
@@ -272,7 +273,7 @@ fn shape_top(s: &[u8], i: usize) -> Num
 fn shape_scalar(s: &[u8], i: usize) -> Num
     ensures { λ r. ⌜ result (now (s .entry)) r ≡ scalar-at (drop i (now (s .entry))) ⌝ }
 {
-    let Num::Read(_, a) = text(s, i, b" (scalar") else {
+    let Num::Read(_, a) = text(s, i, &words::SCALAR) else {
         return Num::Bad;
     };
     let Num::Read(k, b) = number(s, a, sort::BITS_8) else {
@@ -284,7 +285,7 @@ fn shape_scalar(s: &[u8], i: usize) -> Num
 fn shape_flat(s: &[u8], i: usize) -> Num
     ensures { λ r. ⌜ result (now (s .entry)) r ≡ flat-at (drop i (now (s .entry))) ⌝ }
 {
-    let Num::Read(_, a) = text(s, i, b" (flat") else {
+    let Num::Read(_, a) = text(s, i, &words::FLAT) else {
         return Num::Bad;
     };
     let Num::Read(k, b) = number(s, a, sort::BITS_8) else {
@@ -510,7 +511,7 @@ fn name_end(s: &[u8], at: usize) -> usize
 const MOST_KIND: u64 = 7;
 
 // The code of the numbers up to a maximum.
-fn maximum_code(m: u64) -> u8
+pub fn maximum_code(m: u64) -> u8
     ensures { λ r. ⌜ r ≡ max-code m ⌝ }
 {
     if m == 255 {
@@ -597,7 +598,7 @@ fn read_entry(names: &[u64; 781], s: &[u8]) -> Entry
     requires { ⌜ (length (now s) ≤ 65536) × (now names ≡ name-table) ⌝ }
     ensures { λ r. ⌜ Entered (read-line (now (s .entry))) r ⌝ }
 {
-    let Num::Read(_, _) = text(s, 0, b"(op ") else {
+    let Num::Read(_, _) = text(s, 0, &words::OP) else {
         return line_entry(s);
     };
     op_entry(names, s)
@@ -717,7 +718,7 @@ fn stands(place: u64, kind: usize) -> bool
 }
 
 // Whether an operand names a kind that a module lacks: it is a kind by the largest number that it may be. No kind has more than 8 bits.
-fn names_lacking(float: u8, most: u64, value: u64) -> bool
+pub fn names_lacking(float: u8, most: u64, value: u64) -> bool
     ensures { λ r. ⌜ r ≡ (eqb most 7 && is-lacking float value) ⌝ }
 {
     if most != MOST_KIND {
