@@ -3,16 +3,17 @@ use mathlib.Core.Path.{_≡_, refl, sym, ap, ap₂, subst, _∙_}
 use mathlib.Core.Bool.{Bool, true, false, _&&_}
 use mathlib.Core.Option.{Option, none, some}
 use mathlib.Core.List.{List, [], _∷_, _++_, map}
-use Prim.Native.Nat.{ℕ, zero, suc, _+_, _-_, _*_, _^_, _≤_, _<_, min}
+use Prim.Native.Nat.{ℕ, zero, suc, _+_, _-_, _*_, _/_, _%_, _^_, _≤_, _<_, min}
 use native.Mathlib.Decide.{decLt}
-use native.Mathlib.Nat.{pow-succ'}
+use native.Mathlib.Nat.{pow-succ', zero-div, div-div-eq-div-mul}
 use native.Mathlib.Numerals.{add-one}
 use native.Mathlib.Omega.{arith}
 use borrow.Author.Tests.{eqb-true, eqb-false, eq-eqb}
 use lib.Dec.{T, eqb, ltb, leb, leb→le, ltb→lt, eqb→eq, eqb-refl}
 use lib.Ieee.Fits.{and-l, and-r}
 use lib.ListN.{length, getD, take, drop, take-append-drop, length-take, length-drop, drop-of-length-le}
-use lib.Seq.{drop-cons, drop-drop, take-all, take-nil}
+use lib.Pow.{pow-add}
+use lib.Seq.{drop-cons, drop-drop, take-all, take-nil, getD-take, getD-drop}
 use Rattle.definition.specs.Shapes.{same-places}
 use Rattle.definition.specs.Format.{Bytes, bytes}
 use Rattle.definition.specs.Ops.{ops, row}
@@ -95,6 +96,19 @@ words-one xs ys p q h l e0 e1 e2 =
     ∙ ap₂ (λ (a b : Bytes). a ++ b) (part 0 xs ys p q l e0) (ap₂ (λ (a b : Bytes). a ++ b) (part 8 xs ys p q l e1) (part 16 xs ys p q l e2))
     ∙ sym (split ys (omega arith))
 
+-- a letter of a packed text
+little-letter : (xs : Bytes) (j : ℕ) → AllBytes xs → little xs / 2 ^ (8 * j) % 256 ≡ getD xs j 0
+unfolding little
+little-letter [] j p = rw (zero-div (2 ^ (8 * j)))
+little-letter (x ∷ xs) zero p = let a : x < 256 = p .0 in omega arith
+little-letter (x ∷ xs) (suc j) p =
+    let a : x < 256 = p .0 in
+    let q : (x + 256 * little xs) / 256 ≡ little xs = omega arith in
+    let w : 2 ^ (8 * suc j) ≡ 256 * 2 ^ (8 * j) = ap (λ (n : ℕ). 2 ^ n) (let n : 8 * suc j ≡ 8 + 8 * j = omega arith in n) ∙ pow-add 2 8 (8 * j) in
+    ap (λ (d : ℕ). (x + 256 * little xs) / d % 256) w
+    ∙ ap (λ (n : ℕ). n % 256) (sym (div-div-eq-div-mul (x + 256 * little xs) 256 (2 ^ (8 * j))) ∙ ap (λ (n : ℕ). n / 2 ^ (8 * j)) q)
+    ∙ little-letter xs j (p .1)
+
 -- ── The names: at most 24 bytes each ──────────────────────────────────────────────────────
 
 unfoldable all-bytes : Bytes → Bool
@@ -114,13 +128,21 @@ unfolding all-below good name-at names all-bytes ops row bytes
 all-good = tt
 
 module _ (i : ℕ) (h : i < 75) where
-  name-short : length (name-at i) ≤ 24
+  pub name-short : length (name-at i) ≤ 24
   unfolding good
   name-short = leb→le (length (name-at i)) 24 (and-l (leb (length (name-at i)) 24) (all-bytes (name-at i)) (at-each 75 good all-good i h))
 
   name-all : AllBytes (name-at i)
   unfolding good
   name-all = all-are (name-at i) (and-r (leb (length (name-at i)) 24) (all-bytes (name-at i)) (at-each 75 good all-good i h))
+
+  pub name-letter : (j w : ℕ) → w ≡ little (take 8 (drop (8 * (j / 8)) (name-at i))) → w / 2 ^ (8 * (j % 8)) % 256 ≡ getD (name-at i) j 0
+  name-letter j w e =
+      ap (λ (n : ℕ). n / 2 ^ (8 * (j % 8)) % 256) e
+      ∙ little-letter (take 8 (drop (8 * (j / 8)) (name-at i))) (j % 8) (all-take 8 (drop (8 * (j / 8)) (name-at i)) (all-drop (8 * (j / 8)) (name-at i) name-all))
+      ∙ getD-take 8 (drop (8 * (j / 8)) (name-at i)) (j % 8) 0 (omega arith)
+      ∙ getD-drop (8 * (j / 8)) (name-at i) (j % 8) 0
+      ∙ ap (λ (n : ℕ). getD (name-at i) n 0) (let n : 8 * (j / 8) + j % 8 ≡ j = omega arith in n)
 
 -- ── A packed text against a row ───────────────────────────────────────────────────────────
 

@@ -16,26 +16,12 @@ use Rattle.bytecode.specs.Names.{names, name-at, little, place-of, text-
 holds-word : (ℕ → ℕ) → (ℕ → ℕ) → ℕ → Bool
 holds-word at f i = eqb (getD name-table (at i) 0) (f i)
 
-first-of : ℕ → ℕ
-first-of i = little (take 8 (name-at i))
+word-of : ℕ → ℕ → ℕ
+word-of k i = little (take 8 (drop (8 * k) (name-at i)))
 
-second-of : ℕ → ℕ
-second-of i = little (take 8 (drop 8 (name-at i)))
-
-third-of : ℕ → ℕ
-third-of i = little (take 8 (drop 16 (name-at i)))
-
-all-first : T (all-below 75 (holds-word (λ i. i * 7) first-of))
-unfolding all-below holds-word first-of name-table table-rows table-row places placing index-of tabulate text-place place-of little name-at names ops row bytes
-all-first = tt
-
-all-second : T (all-below 75 (holds-word (λ i. i * 7 + 1) second-of))
-unfolding all-below holds-word second-of name-table table-rows table-row places placing index-of tabulate text-place place-of little name-at names ops row bytes
-all-second = tt
-
-all-third : T (all-below 75 (holds-word (λ i. i * 7 + 2) third-of))
-unfolding all-below holds-word third-of name-table table-rows table-row places placing index-of tabulate text-place place-of little name-at names ops row bytes
-all-third = tt
+all-words : T (all-below 3 (λ k. all-below 75 (holds-word (λ i. i * 7 + k) (word-of k))))
+unfolding all-below holds-word word-of name-table table-rows table-row places placing index-of tabulate text-place place-of little name-at names ops row bytes
+all-words = tt
 
 all-long : T (all-below 75 (holds-word (λ i. i * 7 + 3) (λ i. length (name-at i))))
 unfolding all-below holds-word name-table table-rows table-row places placing index-of tabulate text-place place-of little name-at names ops row bytes
@@ -58,17 +44,11 @@ held n at f a t e i h =
     ap (λ (x : List ℕ). getD x (at i) 0) e ∙ eqb→eq (getD name-table (at i) 0) (f i) (at-each n (holds-word at f) a i h)
 
 module _ (t : List ℕ) (e : t ≡ name-table) where
-  pub first-held : (i : ℕ) → i < 75 → getD t (i * 7) 0 ≡ little (take 8 (name-at i))
-  unfolding first-of
-  first-held i h = held 75 (λ i. i * 7) first-of all-first t e i h
-
-  pub second-held : (i : ℕ) → i < 75 → getD t (i * 7 + 1) 0 ≡ little (take 8 (drop 8 (name-at i)))
-  unfolding second-of
-  second-held i h = held 75 (λ i. i * 7 + 1) second-of all-second t e i h
-
-  pub third-held : (i : ℕ) → i < 75 → getD t (i * 7 + 2) 0 ≡ little (take 8 (drop 16 (name-at i)))
-  unfolding third-of
-  third-held i h = held 75 (λ i. i * 7 + 2) third-of all-third t e i h
+  pub word-held : (i k : ℕ) → i < 75 → k < 3 → getD t (i * 7 + k) 0 ≡ little (take 8 (drop (8 * k) (name-at i)))
+  unfolding word-of
+  word-held i k h l =
+      held 75 (λ i. i * 7 + k) (word-of k)
+      (at-each 3 (λ k. all-below 75 (holds-word (λ i. i * 7 + k) (word-of k))) all-words k l) t e i h
 
   pub length-held : (i : ℕ) → i < 75 → getD t (i * 7 + 3) 0 ≡ length (name-at i)
   length-held i h = held 75 (λ i. i * 7 + 3) (λ i. length (name-at i)) all-long t e i h

@@ -1,6 +1,6 @@
 // The table of op names: a row for each name, or each of its variants, in the order of `op_depth_effect`.
 ghost use mathlib.Core.Path.{_≡_};
-ghost use Prim.Native.Nat.{_+_, _<_, _≤_};
+ghost use Prim.Native.Nat.{_+_, _*_, _<_, _≤_};
 ghost use lib.ListN.{length, getD, take, drop};
 ghost use Rattle.definition.specs.Shapes.{same-places};
 ghost use Rattle.bytecode.specs.Meaning.{maxima-of};
@@ -75,32 +75,28 @@ pub fn maximum(names: &[u64; 781], row: usize, j: usize) -> u64
     names[row * 7 + 4 + j]
 }
 
-fn name_length(names: &[u64; 781], row: usize) -> u64
+pub fn name_length(names: &[u64; 781], row: usize) -> usize
     requires { ⌜ (now names ≡ name-table) × (row < 75) ⌝ }
     ensures { λ r. ⌜ r ≡ length (name-at row) ⌝ }
 {
-    names[row * 7 + 3]
+    names[row * 7 + 3] as usize
 }
 
-fn name_0(names: &[u64; 781], row: usize) -> u64
-    requires { ⌜ (now names ≡ name-table) × (row < 75) ⌝ }
-    ensures { λ r. ⌜ r ≡ little (take 8 (name-at row)) ⌝ }
+// Eight letters of the name of a row, packed, from letter 8 * k on.
+fn name_word(names: &[u64; 781], row: usize, k: usize) -> u64
+    requires { ⌜ (now names ≡ name-table) × (row < 75) × (k < 3) ⌝ }
+    ensures { λ r. ⌜ r ≡ little (take 8 (drop (8 * k) (name-at row))) ⌝ }
 {
-    names[row * 7]
+    names[row * 7 + k]
 }
 
-fn name_1(names: &[u64; 781], row: usize) -> u64
-    requires { ⌜ (now names ≡ name-table) × (row < 75) ⌝ }
-    ensures { λ r. ⌜ r ≡ little (take 8 (drop 8 (name-at row))) ⌝ }
+// Letter j of the name of a row. A packed word has its first letter lowest.
+pub fn name_letter(names: &[u64; 781], row: usize, j: usize) -> u8
+    requires { ⌜ (now names ≡ name-table) × (row < 75) × (j < length (name-at row)) ⌝ }
+    ensures { λ r. ⌜ r ≡ getD (name-at row) j 0 ⌝ }
 {
-    names[row * 7 + 1]
-}
-
-fn name_2(names: &[u64; 781], row: usize) -> u64
-    requires { ⌜ (now names ≡ name-table) × (row < 75) ⌝ }
-    ensures { λ r. ⌜ r ≡ little (take 8 (drop 16 (name-at row))) ⌝ }
-{
-    names[row * 7 + 2]
+    let word = name_word(names, row, j / 8);
+    ((word >> (8 * (j % 8))) % 256) as u8
 }
 
 // What a plain name needs.
@@ -156,17 +152,16 @@ fn is_name(names: &[u64; 781], row: usize, p: Packed) -> bool
     requires { ⌜ (now names ≡ name-table) × (row < 75) ⌝ }
     ensures { λ r. ⌜ ((text : Bytes) → Packs text p → r ≡ same-places (name-at row) text) ⌝ }
 {
-    if name_0(names, row) != p.first {
+    if name_word(names, row, 0) != p.first {
         return false;
     }
-    if name_1(names, row) != p.second {
+    if name_word(names, row, 1) != p.second {
         return false;
     }
-    if name_2(names, row) != p.third {
+    if name_word(names, row, 2) != p.third {
         return false;
     }
-    let n = name_length(names, row) as usize;
-    n == p.length
+    name_length(names, row) == p.length
 }
 
 pub enum Found {

@@ -5,23 +5,18 @@ use Rattle.bytecode.proofs.ops.name_length.Tie as tie
 use Rattle.bytecode.proofs.ops.name_length.Reads as reads
 use Rattle.bytecode.proofs.ops.name_length.Lts as lts
 
--- src/ops.rt:1224:11
 mul-result : tie.Need-mul-result
 mul-result c = search needs
 
--- src/ops.rt:1224:11
 add-result : tie.Need-add-result
 add-result c = search needs
 
--- src/ops.rt:1224:5
 mul-result-2 : tie.Need-mul-result-2
 mul-result-2 c = search needs
 
--- src/ops.rt:1224:5
 element-copy-out-result : tie.Need-element-copy-out-result
 element-copy-out-result c = search needs
 
--- src/ops.rt:1220:1
 returns : tie.Need-returns
 returns c = length-held (c .before .args .names .now) (c .before .pre .0) (c .before .args .row) (c .before .pre .1)
 
