@@ -10,6 +10,7 @@
 #include <string.h>
 
 #define ROOM 4000000
+#define LAST_REFUSAL 20
 
 static uint8_t listing[100000], heights[4096], blinds[4096], text[ROOM], part[ROOM + 1], stored[ROOM];
 static size_t length, failures;
@@ -91,10 +92,11 @@ static void stored_text(const char *name) {
     if (count != whole || memcmp(stored, text, whole) != 0) fail(other, "the text differs");
 }
 
-/* Words that no check gives for `listing`: refusal 4, numbers, limits and reasons that are not known, and the largest words. */
+/* Words that no check gives for `listing`: refusals 4 and 20, numbers, limits and reasons that are not known, and the largest words. */
 static size_t made_up(uint8_t *into) {
     static const uint64_t answers[][STAGECHECK_ANSWER_WORDS] = {
-        {4, 0, 3, 2}, {4, 0, 1, 0}, {77, 1, 2, 3}, {20}, {2, 0, 0, 0}, {2, 0, 0, 7}, {2, 0, 0, 2}, {2, 0, 0, 3},
+        {4, 0, 3, 2}, {4, 0, 1, 0}, {20, 0, 24}, {20, 0, 1}, {77, 1, 2, 3}, {LAST_REFUSAL + 1},
+        {2, 0, 0, 0}, {2, 0, 0, 7}, {2, 0, 0, 2}, {2, 0, 0, 3},
         {18, 0, 0, 1, 0}, {18, 0, 0, 1, 5}, {19, 0, 1, 2, 0}, {19, 0, 1, 2, 3}, {6, 0, 3, 9, 17, 16}, {6, 1, 0, 9, 17, 1},
     };
     size_t at = 0;
@@ -103,10 +105,10 @@ static size_t made_up(uint8_t *into) {
         memcpy(into + at, text, whole);
         at += whole;
     }
-    for (uint64_t number = 1; number <= 20; number++) {
+    for (uint64_t number = 1; number <= LAST_REFUSAL + 1; number++) {
         uint64_t largest[STAGECHECK_ANSWER_WORDS];
         for (int i = 0; i < STAGECHECK_ANSWER_WORDS; i++) largest[i] = UINT64_MAX;
-        largest[0] = number < 20 ? number : UINT64_MAX;
+        largest[0] = number <= LAST_REFUSAL ? number : UINT64_MAX;
         size_t whole = held_to("largest words", largest);
         memcpy(into + at, text, whole);
         at += whole;
@@ -142,7 +144,7 @@ static void random_call(void) {
         for (uint64_t damaged = any(8); damaged > 6; damaged--) listing[length + any(n)] = (uint8_t)any(256);
         length += n;
     }
-    for (int i = 0; i < STAGECHECK_ANSWER_WORDS; i++) answer[i] = any(4) == 0 ? state : any(i == 0 ? 22 : 6);
+    for (int i = 0; i < STAGECHECK_ANSWER_WORDS; i++) answer[i] = any(4) == 0 ? state : any(i == 0 ? LAST_REFUSAL + 2 : 6);
     for (int i = 0; i < 40; i++) heights[i] = (uint8_t)any(256), blinds[i] = (uint8_t)any(2);
     size_t whole = answer[0] == 0 ? explain(answer, text, ROOM) : held_to("random", answer);
     printable("random", whole);

@@ -1,8 +1,9 @@
--- What each case of an answer means: 01's number and values for each refusal.
+-- What each case of an answer means: the number and the values of each refusal.
 use mathlib.Core.Bool.{Bool, true, false}
 use mathlib.Core.Option.{Option, none, some}
 use mathlib.Core.List.{List, [], _∷_}
 use Prim.Native.Nat.{ℕ}
+use Rattle.definition.specs.Basics.{Result, ok, refused}
 use Rattle.definition.specs.Check.{Answer as AnyAnswer, accepted, refusal as refusing}
 use Rattle.answer.specs.declared.Refusal.{Refusal}
 use Rattle.answer.specs.declared.Refusal.the-variants as R
@@ -12,9 +13,11 @@ use Rattle.answer.specs.declared.Finding.{Finding}
 use Rattle.answer.specs.declared.Finding.the-variants as F
 use Rattle.answer.specs.declared.Answer.{Answer}
 use Rattle.answer.specs.declared.Answer.the-variants.{Accepted, Refused}
+use Rattle.answer.specs.declared.Written.{Written}
+use Rattle.answer.specs.declared.Written.the-variants as W
 
 -- 01: "A refusal carries number, chunk (0 if none), then its Rust fields in declared order; 2 carries ip (0 if none) and limit, 3 ip."
--- 1 carries "the count of lines before it", 4 "their number, the shorter length". The chunk is not among these.
+-- 1 carries "the count of lines before it", 4 "their number, the shorter length", 20 "the length needed". The chunk is not among these.
 unfoldable pub fields : Refusal → List ℕ
 fields (R.CannotFollow lines) = 1 ∷ lines ∷ []
 fields (R.LimitPassed ip limit) = 2 ∷ ip ∷ limit ∷ []
@@ -35,8 +38,9 @@ fields (R.SharedSlotOutOfBounds slot offset size buffer) = 16 ∷ slot ∷ offse
 fields (R.EnumBodySizeMismatch ip baked) = 17 ∷ ip ∷ baked ∷ []
 fields (R.PrivateCompositeLayoutInvalid index slot reason) = 18 ∷ index ∷ slot ∷ reason ∷ []
 fields (R.SharedLayoutCountMismatch slots len reason) = 19 ∷ slots ∷ len ∷ reason ∷ []
+fields (R.BufferTooShort needed) = 20 ∷ needed ∷ []
 
--- 01's number, the chunk's, then the values
+-- the refusal's number, the chunk's, then the values
 unfoldable pub with-chunk : ℕ → List ℕ → List ℕ
 with-chunk k [] = []
 with-chunk k (n ∷ fields) = n ∷ k ∷ fields
@@ -62,3 +66,7 @@ found (F.Refused k r) = some (numbers k r)
 unfoldable pub answerOf : Answer → AnyAnswer
 answerOf (Accepted chunks instructions) = accepted chunks instructions
 answerOf (Refused k r) = refusing (numbers k r)
+
+unfoldable pub writtenOf : Written → Result ℕ
+writtenOf (W.Length n) = ok n
+writtenOf (W.Refused r) = refused (numbers 0 r)

@@ -2,6 +2,7 @@
 use mathlib.Core.List.{List, [], _∷_, _++_}
 use Prim.Native.Nat.{ℕ, _-_}
 use lib.ListN.{length, replicate}
+use Rattle.definition.specs.Basics.{Result, ok, refused}
 use Rattle.definition.specs.Check.{Answer, accepted, refusal}
 use Rattle.answer.specs.declared.Numbers.{Numbers}
 
@@ -9,6 +10,11 @@ use Rattle.answer.specs.declared.Numbers.{Numbers}
 unfoldable pub values-of : Answer → List ℕ
 values-of (accepted chunks instructions) = 0 ∷ chunks ∷ instructions ∷ []
 values-of (refusal r) = r
+
+-- the same of a call that writes: 0 and the length written
+unfoldable pub values-of-written : Result ℕ → List ℕ
+values-of-written (ok n) = 0 ∷ n ∷ []
+values-of-written (refused r) = r
 
 -- The values, how many they are, and zeros after them.
 unfoldable pub row-of : List ℕ → Numbers

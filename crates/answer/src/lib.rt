@@ -1,13 +1,14 @@
-// The answer of the check: acceptance, or one of document 01's refusals with its values.
+// The answer of a call: of the check acceptance, of the writer the length written, of both a refusal with its values.
 ghost use mathlib.Core.Path.{_≡_};
 ghost use mathlib.Core.List.{_∷_, []};
-ghost use Rattle.answer.specs.Answer.{numbers, refusal, is-none, answerOf};
-ghost use Rattle.answer.specs.Numbers.{values-of, row-of};
+ghost use Rattle.answer.specs.Answer.{numbers, refusal, is-none, answerOf, writtenOf};
+ghost use Rattle.answer.specs.Numbers.{values-of, values-of-written, row-of};
 
 pub mod limit;
 pub mod reason;
 
-// A fault, made where it is found: in the order of 01's numbers, 1 to 19, with the Rust's fields. The chunk stands beside it.
+// A fault, made where it is found: in the order of the numbers of 01, 1 to 19, with the Rust's fields, and of 02, from 20 on. The chunk stands
+// beside it.
 pub enum Refusal {
     // 1: lines before the one that cannot follow
     CannotFollow(u64),
@@ -47,6 +48,8 @@ pub enum Refusal {
     PrivateCompositeLayoutInvalid(u64, u64, u64),
     // 19: shared_slots, layout_len, reason
     SharedLayoutCountMismatch(u64, u64, u64),
+    // 20: the length needed
+    BufferTooShort(u64),
 }
 
 // Of an instruction, or of a stretch of one chunk.
@@ -78,10 +81,25 @@ pub enum Answer {
     Refused(u64, Refusal),
 }
 
+// Of a call that writes a listing: the length written, or one refusal, of no chunk.
+pub enum Written {
+    Length(u64),
+    Refused(Refusal),
+}
+
 // An answer's numbers: as many as count says, and zeros after them.
 pub struct Numbers {
     pub count: usize,
     pub words: [u64; 8],
+}
+
+fn two(a: u64, b: u64) -> Numbers
+    ensures { λ r. ⌜ r ≡ row-of (a ∷ b ∷ []) ⌝ }
+{
+    Numbers {
+        count: 2,
+        words: [a, b, 0, 0, 0, 0, 0, 0],
+    }
 }
 
 fn three(a: u64, b: u64, c: u64) -> Numbers
@@ -145,6 +163,7 @@ impl Refusal {
             Refusal::EnumBodySizeMismatch(p, b) => four(17, k, p, b),
             Refusal::PrivateCompositeLayoutInvalid(i, s, r) => five(18, k, i, s, r),
             Refusal::SharedLayoutCountMismatch(s, n, r) => five(19, k, s, n, r),
+            Refusal::BufferTooShort(n) => three(20, k, n),
         }
     }
 }
@@ -157,6 +176,18 @@ impl Answer {
         match self {
             Answer::Accepted(chunks, instructions) => three(0, chunks, instructions),
             Answer::Refused(k, r) => r.numbers(k),
+        }
+    }
+}
+
+impl Written {
+    // 0 and the length written, or the refusal's numbers.
+    pub fn numbers(self) -> Numbers
+        ensures { λ r. ⌜ r ≡ row-of (values-of-written (writtenOf self)) ⌝ }
+    {
+        match self {
+            Written::Length(n) => two(0, n),
+            Written::Refused(r) => r.numbers(0),
         }
     }
 }

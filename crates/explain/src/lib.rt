@@ -1,4 +1,4 @@
-// Words for an answer of the check, for people. Each function takes any bytes and any words, writes as much of its text as fits, and answers the
+// Words for an answer, for people. Each function takes any bytes and any words, writes as much of its text as fits, and answers the
 // length of the whole.
 ghost use Prim.Native.Nat.{_≤_};
 
@@ -13,7 +13,7 @@ const LF: u8 = b'\n';
 
 // Row K for refusal K: its name, a colon and a sentence, filled with the words as put::row says; row 0 for numbers that are not known. Where the
 // sentence hangs on more than the number the row ends with the colon, and case_row says which row of put_case goes on.
-const REFUSALS: [u8; 1417] = *b"refusal #0: this check knows no such refusal\n\
+const REFUSALS: [u8; 1495] = *b"refusal #0: this check knows no such refusal\n\
     CannotFollow: \n\
     LimitPassed: \n\
     NotNested: this instruction does not fit the blocks around it: its place or its target is wrong\n\
@@ -32,7 +32,8 @@ const REFUSALS: [u8; 1417] = *b"refusal #0: this check knows no such refusal\n\
     SharedSlotOutOfBounds: \n\
     EnumBodySizeMismatch: a new enum of #3 byte~3 fits no enum line: it has the bytes of a word and MIN more\n\
     PrivateCompositeLayoutInvalid: \n\
-    SharedLayoutCountMismatch: \n";
+    SharedLayoutCountMismatch: \n\
+    BufferTooShort: the buffer is shorter than the listing, which needs #2 byte~2\n";
 
 fn put_refusal(text: &mut [u8], at: usize, stop: u8, words: &[u64; 8]) -> usize {
     let rows = REFUSALS;

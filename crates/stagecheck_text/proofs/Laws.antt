@@ -58,6 +58,7 @@ few k (R.SharedSlotOutOfBounds a b c d) = omega arith
 few k (R.EnumBodySizeMismatch a b) = omega arith
 few k (R.PrivateCompositeLayoutInvalid a b c) = omega arith
 few k (R.SharedLayoutCountMismatch a b c) = omega arith
+few k (R.BufferTooShort a) = omega arith
 
 eight : (xs : List ℕ) → length xs ≤ 8 → length (xs ++ replicate (8 - length xs) 0) ≡ 8
 eight xs l = omega (arith, length-append xs (replicate (8 - length xs) 0), length-replicate {A = ℕ} (8 - length xs) 0)
