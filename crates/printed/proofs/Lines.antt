@@ -11,12 +11,12 @@ use Rattle.definition.specs.Format.{Bytes, bytes, decimal}
 use Rattle.definition.specs.Module.{all-ops}
 use Rattle.definition.specs.Check.{Answer, Checked}
 use Rattle.definition.specs.Printed.{words, height-word, blind-word, print-ops, print-chunks, sizes, print-answer}
+use Rattle.theorems.specs.Decimal.{decimal-short}
 use Rattle.bytecode.specs.Tables.{cap}
 use Rattle.bytecode.specs.Lists.{tabulate, tabulate-length}
 use Rattle.bytecode.specs.Meaning.{count, opAt, codeOf, moduleOf, first-op, op-count, count-low}
 use Rattle.sheets.specs.Totals.{chunks-counted}
 use Rattle.printed.specs.Texts.{header, line, of-sheets, acceptance, accepted-text}
-use Rattle.printed.proofs.Decimal.{decimal-short}
 
 -- ── Words ─────────────────────────────────────────────────────────────────────────────────
 

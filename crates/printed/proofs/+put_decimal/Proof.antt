@@ -4,7 +4,7 @@ use mathlib.Core.List.{[], _∷_, _++_}
 use Prim.Native.Nat.{_/_}
 use lib.ListN.{length}
 use Rattle.definition.specs.Format.{decimal}
-use Rattle.printed.proofs.Decimal.{decimal-one, decimal-more, decimal-longer}
+use Rattle.theorems.specs.Decimal.{decimal-one, decimal-more, decimal-longer}
 use Rattle.printed.proofs.Writes.{both, renamed}
 use Prim.Native.Nat.{ℕ, _<_}
 use borrow.Fn.Kinds.{In}

@@ -5,7 +5,7 @@ use Prim.Native.Nat.{_+_, _*_, _-_, _≤_}
 use lib.ListN.{length, getD}
 use Rattle.definition.specs.Format.{bytes, decimal}
 use Rattle.definition.specs.Printed.{words}
-use Rattle.printed.proofs.Decimal.{decimal-short}
+use Rattle.theorems.specs.Decimal.{decimal-short}
 use Rattle.printed.proofs.Lines.{numbers-left, numbers-begun, numbers-more, numbers-none}
 use Rattle.printed.proofs.Writes.{Left, at-start, holds, begun, part, last}
 use Rattle.printed.proofs.print_refused.Statement.{statement}
