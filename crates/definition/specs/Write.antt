@@ -74,17 +74,17 @@ shape-text = at-shape (render (λ w. []) [])
 unfoldable pub is-shape : Wire → Bool
 is-shape = at-shape (admits (λ w. false) true)
 
--- the same at those of an op; a number without a row has no form, and one among no numbers stands for it
+-- A function of items and their values, at those of an op; a code without a row has no form, and an item that admits no number stands for it.
 unfoldable pub at-row : {A : Type 0} → ((is : List Item) → Maker is A) → Option Row → List ℕ → A
 at-row f none ns = f (among [] ∷ []) 0
 at-row f (some r) ns = f (op-items r) ns
 
--- the same at those of a slot
+-- A function of items and their values, at those of a slot.
 unfoldable pub at-slot : {A : Type 0} → ((is : List Item) → Maker is A) → Slot → A
 at-slot f shared = f (slot-items shared)
 at-slot f private = f (slot-items private)
 
--- The same at those of a line.
+-- A function of items and their values, at those of a line.
 unfoldable pub at-line : {A : Type 0} → ((is : List Item) → Maker is A) → Line → A
 at-line f (first-line h) =
     f header-items (h .word) (h .float) (h .address-log) (h .shared-bytes) (h .pool-bytes) (h .index-trap) (h .host-trap)

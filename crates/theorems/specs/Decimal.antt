@@ -2,14 +2,14 @@
 -- number are those that write it.
 use mathlib.Core.Path.{_≡_, refl, sym, ap, _∙_, subst}
 use mathlib.Core.Bool.{Bool, true, false, not, _&&_}
-use mathlib.Core.Option.{Option, none, some}
-use mathlib.Core.List.{List, [], _∷_, _++_, append-assoc}
+use mathlib.Core.Option.{some}
+use mathlib.Core.List.{[], _∷_, _++_, append-assoc}
 use Prim.Native.Nat.{ℕ, zero, suc, _+_, _*_, _-_, _/_, _%_, _^_, _≤_, _<_}
 use native.Mathlib.Omega.{arith}
 use native.Mathlib.Nat.{pow-suc}
 use native.Mathlib.Decide.{decLt}
 use borrow.Author.Tests.{lt-ltb, le-ltb, le-leb, ne-eqb}
-use lib.Dec.{T, leb, eqb, leb→le, eqb→eq, eqb-refl}
+use lib.Dec.{leb, eqb, leb→le}
 use lib.ListN.{length, length-append}
 use Rattle.definition.specs.Format.{Bytes, is-digit, digits-from, begins-digit, begins-number, number-at, provided, decimal-before, decimal}
 use Rattle.theorems.specs.Cover.{no-some, no-false, T-of, and-true, eqb-eq}

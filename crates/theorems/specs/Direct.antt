@@ -1,27 +1,26 @@
 -- The test whether some listing gives a module, table by table: what a writer has to look at.
 use mathlib.Core.Path.{_≡_, refl, sym, ap, _∙_, subst}
-use mathlib.Core.Logic.{_≢_}
 use mathlib.Core.Bool.{Bool, true, false, not, _&&_}
-use mathlib.Core.Option.{Option, none, some}
+use mathlib.Core.Option.{none, some}
 use mathlib.Core.List.{List, [], _∷_, _++_, map, append-assoc, append-nil}
-use Prim.Native.Nat.{ℕ, zero, suc, _+_, _≤_, _<_}
+use Prim.Native.Nat.{ℕ, suc, _+_, _≤_, _<_}
 use native.Mathlib.Omega.{arith}
-use borrow.Author.Tests.{le-leb, lt-ltb, le-ltb, ne-eqb, leb-true}
-use lib.Dec.{T, leb, ltb, eqb, leb→le}
+use borrow.Author.Tests.{le-leb, lt-ltb, ne-eqb, leb-true}
+use lib.Dec.{leb, eqb}
 use lib.ListN.{length, length-append}
-use Rattle.definition.specs.Basics.{Result, ok, refused, _>>=_, first, unless, pass, choose}
+use Rattle.definition.specs.Basics.{ok, _>>=_, first, unless, pass, choose}
 use Rattle.definition.specs.Shapes.{Wire}
 use Rattle.definition.specs.Instructions.{Sig}
-use Rattle.definition.specs.Format.{Bytes, provided}
+use Rattle.definition.specs.Format.{provided}
 use Rattle.definition.specs.Ops.{Op, instr, named-kind, has-kind}
 use Rattle.definition.specs.Module.{Slot, shared, private, Shared, Private, Code, Header, Module, all-consts, all-ops}
 use Rattle.definition.specs.Read.{Line, first-line, slot-line, shared-line, private-line, enum-line, native-line, sig-line, chunk-line, const-line, op-line}
-use Rattle.definition.specs.Read.{close-line, within, follow, limit, has-room, limits, to-last, add-const, add-op, add, Reader, at-start, or-line, take-line}
+use Rattle.definition.specs.Read.{close-line, within, follow, limit, has-room, limits, add-const, add-op, add, Reader, at-start, or-line, take-line}
 use Rattle.definition.specs.Write.{all-pass, is-line, at-line, at-slot, admits, chunk-lines, chunks-lines, lines-of, listing-of, lines-give, is-ok, is-given}
-use Rattle.theorems.specs.Cover.{no-ok, ok-inj, no-false, T-of, and-true}
-use Rattle.theorems.specs.Each.{Each, nobody, both}
-use Rattle.theorems.specs.Fits.{Fits, Tables-fit, Table, Kinds-fit, Code-fits, Sig-fits, Has-kind, read-fits}
-use Rattle.theorems.specs.Relisted.{given-reads, ok-of, last-one, code-of, Gave, gave, gives, ends, took}
+use Rattle.theorems.specs.Cover.{no-false, and-true}
+use Rattle.theorems.specs.Each.{Each, both}
+use Rattle.theorems.specs.Fits.{Fits, Code-fits, Sig-fits, Has-kind, read-fits}
+use Rattle.theorems.specs.Relisted.{given-reads, ok-of, last-one, code-of, gave, gives, ends}
 
 -- ── The test ──────────────────────────────────────────────────────────────────────────────
 

@@ -3,14 +3,13 @@ use mathlib.Core.Path.{_≡_, refl, sym, ap, _∙_, subst}
 use mathlib.Core.Bool.{Bool, true, false, _&&_}
 use mathlib.Core.Option.{Option, none, some}
 use mathlib.Core.List.{List, [], _∷_, _++_, append-nil}
-use Prim.Native.Nat.{ℕ, zero, suc, _+_, _≤_, _<_}
+use Prim.Native.Nat.{ℕ, zero, suc, _+_, _≤_}
 use native.Mathlib.Nat.{zero-add}
 use native.Mathlib.Omega.{arith}
-use lib.Dec.{T}
-use lib.ListN.{length, getElem?, length-append}
+use lib.ListN.{length, getElem?}
 use Rattle.definition.specs.Basics.{is-member}
 use Rattle.definition.specs.Shapes.{Wire, top, scalarW, flatW}
-use Rattle.definition.specs.Format.{Bytes, bytes, Item, Maker, Form, form, Shape-reader, parse, front, begins-with, _and-then_, nothing-after, whole}
+use Rattle.definition.specs.Format.{Bytes, Item, Maker, Form, form, Shape-reader, parse, front, begins-with, _and-then_, nothing-after, whole}
 use Rattle.definition.specs.Format.{shape-forms, shape-at, top-items, scalar-items, flat-items}
 use Rattle.definition.specs.Ops.{Row, ops, Op}
 use Rattle.definition.specs.Module.{shared, private}
@@ -22,7 +21,7 @@ use Rattle.definition.proofs.Open.{computing}
 use Rattle.theorems.specs.Cover.{no-some, no-false, T-of, and-true}
 use Rattle.theorems.specs.Keys.{key, keys, apart, apart-from, all-apart, keys-apart}
 use Rattle.theorems.specs.Decimal.{one-line}
-use Rattle.theorems.specs.Rendered.{Values, at-values, text-of, render-is, held, admits-is, Shape-was, Parsed, parsed}
+use Rattle.theorems.specs.Rendered.{Values, at-values, text-of, render-is, held, admits-is, Shape-was, parsed}
 use Rattle.theorems.specs.Reread
 use Rattle.theorems.specs.Reread.{clear-cut, Shape-back, parse-back, text-line, front-at, whole-at}
 

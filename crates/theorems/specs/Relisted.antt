@@ -1,14 +1,13 @@
 -- A listing that is read is written as the same bytes; what is written is read as the same module; and the modules that the writer writes are those that
 -- some listing gives.
 use mathlib.Core.Path.{_≡_, refl, sym, ap, _∙_, subst}
-use mathlib.Core.Logic.{_⊎_, inl, inr}
 use mathlib.Core.Bool.{Bool, true, false, not, _&&_}
 use mathlib.Core.Option.{Option, none, some}
 use mathlib.Core.List.{List, [], _∷_, _++_, map, append-assoc, append-nil}
-use Prim.Native.Nat.{ℕ, zero, suc, _+_, _≤_, _<_}
+use Prim.Native.Nat.{ℕ, suc, _+_, _≤_, _<_}
 use native.Mathlib.Omega.{arith}
 use borrow.Author.Tests.{leb-false, le-leb}
-use lib.Dec.{T, leb, eqb, leb→le, eqb→eq, eqb-refl}
+use lib.Dec.{leb, eqb, leb→le}
 use lib.ListN.{length, drop, length-append, length-drop}
 use Rattle.definition.specs.Basics.{Result, ok, refused, _>>=_, unless, pass, choose}
 use Rattle.definition.specs.Shapes.{Wire}
@@ -658,11 +657,12 @@ read-again bs m e =
     let l : leb (length bs) 65536 ≡ true = unless-none (leb (length bs) 65536) (limit 1) (q .0) in
     (s, (rw (s, l, g)))
 
+-- "a listing that reads is written as the same bytes",
 pub read-written : (bs : Bytes) (m : Module) → read bs ≡ ok m → write m ≡ ok bs
 unfolding write unless pass
 read-written bs m e = let p = read-again bs m e in rw (p .1, p .0)
 
--- what is written is read as the same module,
+-- and "What it writes is read as the same module".
 pub written-read : (m : Module) (bs : Bytes) → write m ≡ ok bs → read bs ≡ ok m
 unfolding write
 written-read m bs e =

@@ -1,22 +1,18 @@
 -- One line, written and read: what the forms read is what they write, and the other way round.
 use mathlib.Core.Path.{_≡_, refl, sym, ap, _∙_, subst}
-use mathlib.Core.Bool.{Bool, true, false, not, _&&_}
+use mathlib.Core.Bool.{Bool, true, false, _&&_}
 use mathlib.Core.Option.{Option, none, some}
 use mathlib.Core.List.{List, [], _∷_, _++_, append-assoc, append-nil}
-use Prim.Native.Nat.{ℕ, zero, suc, _+_, _≤_, _<_}
-use native.Mathlib.Nat.{zero-add}
-use native.Mathlib.Omega.{arith}
-use lib.Dec.{T, leb, eqb, eqb→eq, eqb-refl}
-use lib.ListN.{length, getElem?, length-append}
+use Prim.Native.Nat.{ℕ, zero, suc, _+_}
+use lib.Dec.{leb, eqb}
+use lib.ListN.{length}
 use Rattle.definition.specs.Basics.{is-member}
-use Rattle.definition.specs.Shapes.{Wire, top, scalarW, flatW}
-use Rattle.definition.specs.Format.{Bytes, bytes, Item, text, number, among, numbers, shape, shapes, Maker, Form, form, Shape-reader, parse, strip, front}
-use Rattle.definition.specs.Format.{number-at, numbers-at, shapes-at, begins-digit, begins-with, decimal, _and-then_, provided, nothing-after, whole}
-use Rattle.definition.specs.Format.{shape-forms, shape-at}
-use Rattle.definition.specs.Ops.{Row, ops, Op}
+use Rattle.definition.specs.Shapes.{Wire}
+use Rattle.definition.specs.Format.{Bytes, bytes, Item, text, number, among, numbers, shape, shapes, Maker, Shape-reader, parse, strip}
+use Rattle.definition.specs.Format.{number-at, numbers-at, shapes-at, begins-with, decimal, _and-then_}
 use Rattle.definition.specs.Write.{spaced, all-written, render, are-within, all-pass, admits}
-use Rattle.theorems.specs.Cover.{no-some, no-false, T-of, and-true, eqb-eq}
-use Rattle.theorems.specs.Decimal.{number-back, number-was}
+use Rattle.theorems.specs.Cover.{no-some, eqb-eq}
+use Rattle.theorems.specs.Decimal.{number-was}
 
 -- ── Values of items ───────────────────────────────────────────────────────────────────────
 

@@ -2,18 +2,18 @@
 use mathlib.Core.Path.{_≡_, refl, sym, ap, _∙_, subst}
 use mathlib.Core.Bool.{Bool, true, false, not, _&&_}
 use mathlib.Core.Option.{Option, none, some}
-use mathlib.Core.List.{List, [], _∷_, _++_, append-assoc, append-nil}
-use Prim.Native.Nat.{ℕ, zero, suc, _+_, _≤_, _<_}
+use mathlib.Core.List.{List, [], _∷_, _++_, append-assoc}
+use Prim.Native.Nat.{ℕ, zero, suc, _+_, _≤_}
 use native.Mathlib.Omega.{arith}
-use lib.Dec.{T, leb, eqb, eqb→eq, eqb-refl}
+use lib.Dec.{T, leb, eqb, eqb-refl}
 use lib.Ieee.Fits.{and-l, and-r}
 use lib.ListN.{length, getElem?, length-append}
 use Rattle.definition.specs.Basics.{is-member}
 use Rattle.definition.specs.Shapes.{Wire}
-use Rattle.definition.specs.Format.{Bytes, bytes, Item, text, number, among, numbers, shape, shapes, Maker, Form, form, Shape-reader, parse, strip, front}
-use Rattle.definition.specs.Format.{number-at, numbers-at, shapes-at, is-digit, begins-digit, begins-with, decimal, _and-then_, nothing-after, whole}
+use Rattle.definition.specs.Format.{Bytes, bytes, Item, text, number, among, numbers, shape, shapes, Maker, Form, Shape-reader, parse, strip, front}
+use Rattle.definition.specs.Format.{number-at, numbers-at, shapes-at, is-digit, begins-digit, begins-with, _and-then_, nothing-after, whole}
 use Rattle.definition.specs.Write.{spaced, all-written, are-within, all-pass}
-use Rattle.theorems.specs.Cover.{no-some, no-false, T-of, and-true}
+use Rattle.theorems.specs.Cover.{no-some, no-false, and-true}
 use Rattle.theorems.specs.Keys.{key, keys, apart, apart-from, all-apart, starts, apart-strip}
 use Rattle.theorems.specs.Decimal.{number-back, one-line, one-line-append, decimal-line}
 use Rattle.theorems.specs.Rendered.{Values, at-values, text-of, held}
