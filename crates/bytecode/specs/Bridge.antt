@@ -101,7 +101,7 @@ unfolding all-consts
 consts-fit [] f = tt
 consts-fit (c ∷ cs) f = all-both ConstFits (c .consts) (all-consts cs) (f .0 .consts) (consts-fit cs (f .1))
 
-ops-fit : (cs : List Code) → All CodeFits cs → All OpFits (all-ops cs)
+pub ops-fit : (cs : List Code) → All CodeFits cs → All OpFits (all-ops cs)
 unfolding all-ops
 ops-fit [] f = tt
 ops-fit (c ∷ cs) f = all-both OpFits (c .ops) (all-ops cs) (f .0 .ops) (ops-fit cs (f .1))

@@ -7,3 +7,4 @@ pub mod Parts
 pub mod Fits
 pub mod Bridge
 pub mod Names
+pub mod Exact

@@ -61,6 +61,13 @@ const INDEX_TRAP: usize = 22;
 
 const HOST_TRAP: usize = 23;
 
+// The words of a chunk's row: LOCALS, and the numbers of its first constant and of its first instruction among all.
+pub const LOCALS: usize = 1;
+
+pub const FIRST_CONSTANT: usize = 2;
+
+pub const FIRST_CODE: usize = 3;
+
 // Where the rows of the instructions begin.
 const FIRST_INSTRUCTION: usize = 5848;
 
@@ -143,14 +150,22 @@ pub fn word(t: &[u64], i: usize) -> u64
     if i < t.len() { t[i] } else { 0 }
 }
 
+// Where row i of table k stands.
+pub fn row_place(k: usize, i: usize) -> usize
+    requires { ⌜ (k < tables) × (i < cap k) ⌝ }
+    ensures { λ r. ⌜ (r ≡ row-at k i) × (r + stride k ≤ size) ⌝ }
+{
+    let s = stride_of(k);
+    let b = base_of(k);
+    b + i * s
+}
+
 // Word j of row i of table k.
 pub fn cell(t: &[u64], k: usize, i: usize, j: usize) -> u64
     requires { ⌜ (k < tables) × (i < cap k) × (j < 19) ⌝ }
     ensures { λ r. ⌜ r ≡ getD (now (t .entry)) (row-at k i + j) 0 ⌝ }
 {
-    let s = stride_of(k);
-    let b = base_of(k);
-    word(t, b + i * s + j)
+    word(t, row_place(k, i) + j)
 }
 
 // One more row of table k.
@@ -425,7 +440,7 @@ pub fn locals(t: &[u64], k: usize) -> usize
     requires { ⌜ k < 64 ⌝ }
     ensures { λ r. ⌜ r ≡ localsAt (now (t .entry)) k ⌝ }
 {
-    limited64(cell(t, CHUNKS, k, 1), 32)
+    limited64(cell(t, CHUNKS, k, LOCALS), 32)
 }
 
 // A stretch of a table: its first row, and how many rows.
@@ -479,12 +494,20 @@ fn span_of(t: &[u64], table: usize, j: usize, k: usize) -> Span
     }
 }
 
+// The constants of chunk k among all.
+pub fn constants_of(t: &[u64], k: usize) -> Span
+    requires { ⌜ k < 64 ⌝ }
+    ensures { λ r. ⌜ Span-is (now (t .entry)) 8 2 k r ⌝ }
+{
+    span_of(t, CONSTANTS, FIRST_CONSTANT, k)
+}
+
 // The instructions of chunk k among all.
 pub fn instructions_of(t: &[u64], k: usize) -> Span
     requires { ⌜ k < 64 ⌝ }
     ensures { λ r. ⌜ Span-is (now (t .entry)) 9 3 k r ⌝ }
 {
-    span_of(t, INSTRUCTIONS, 3, k)
+    span_of(t, INSTRUCTIONS, FIRST_CODE, k)
 }
 
 pub enum Constant {
@@ -510,7 +533,7 @@ pub fn constant_at(t: &[u64], k: usize, j: usize) -> Constant
     requires { ⌜ k < 64 ⌝ }
     ensures { λ r. ⌜ constant-of r ≡ getElem? (chunkOf (now (t .entry)) k .consts) j ⌝ }
 {
-    let s = span_of(t, CONSTANTS, 2, k);
+    let s = constants_of(t, k);
     let first = s.first;
     let n = s.count;
     if j < n {

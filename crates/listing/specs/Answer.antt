@@ -1,5 +1,6 @@
 -- The answer of reading: 01's number and values for each case, and what the tables then mean.
 use mathlib.Core.Path.{_≡_, refl, sym, ap, _∙_}
+use mathlib.Core.Bool.{true}
 use mathlib.Core.List.{List, [], _∷_}
 use Prim.Native.Nat.{ℕ}
 use lib.ListN.{length}
@@ -10,6 +11,7 @@ use Rattle.definition.specs.Read.{Reader, read, limit}
 use Rattle.bytecode.specs.Held.{Held, lists}
 use Rattle.bytecode.specs.Meaning.{count, moduleOf, chunksOf}
 use Rattle.bytecode.specs.Fits.{ModuleFits}
+use Rattle.bytecode.specs.Exact.{is-exact, held-exact}
 use Rattle.bytecode.specs.Bridge.{module-is, chunks-are, chunk-count, op-total}
 use Rattle.listing.specs.Reads.{Read-is}
 use Rattle.listing.specs.Fitting.{read-fits}
@@ -22,7 +24,7 @@ result-of R.Module u = ok (moduleOf u)
 result-of (R.Line n) u = refused (1 ∷ 0 ∷ n ∷ [])
 result-of (R.Limit n) u = refused (limit n)
 
--- The tables' chunks are those of the module that they mean, and so are the counts.
+-- The tables' chunks are those of the module that they mean, and so are the counts; they say it exactly.
 pub record Stands-in (u : List ℕ) : Type 0 where
   pub chunks : chunksOf u ≡ chunks-of (moduleOf u)
   pub chunk-number : count u 7 ≡ length (moduleOf u .chunks)
@@ -31,6 +33,7 @@ pub record Stands-in (u : List ℕ) : Type 0 where
   pub reader : Reader
   pub held : Held u (lists reader)
   pub module-held : moduleOf u ≡ reader .so-far
+  pub exact : is-exact u ≡ true
 
 unfoldable pub Left-in : Reading → List ℕ → Type 0
 Left-in R.Module u = Stands-in u
@@ -51,6 +54,7 @@ answered s R.Module u x =
         reader = x .0;
         held = x .3;
         module-held = e;
+        exact = held-exact u (x .0) (x .3) (x .2) fit e;
       },
     )
 answered s (R.Line n) u x = (x, tt)

@@ -55,6 +55,11 @@ all-forms : T (all-below 11 at-form)
 unfolding all-below at-form same-places up-to formats flat form-codes filled codes max-code among-code line-forms form bytes choose is-member
 all-forms = tt
 
+-- the codes of a form
+pub form-coded : (f : ℕ) → f < 11 → up-to (drop (f * 16) formats) ≡ getD (form-codes line-forms) f []
+unfolding at-form
+form-coded f h = same-list _ _ (at-each 11 at-form all-forms f h)
+
 forms-long : length line-forms ≡ 11
 unfolding line-forms
 forms-long = refl
@@ -77,8 +82,8 @@ module _ (s : Bytes) where
     at = form-at 0 f f line-forms (omega arith) line-fits (omega (arith, forms-long))
 
     by-codes : left s 0 (f * 16) ≡ scan (codes (at .this .items)) s
-    unfolding left at-form
-    by-codes = ap (λ (cs : List ℕ). scan cs s) (same-list _ _ (at-each 11 at-form all-forms f h) ∙ at .coded)
+    unfolding left
+    by-codes = ap (λ (cs : List ℕ). scan cs s) (form-coded f h ∙ at .coded)
 
     module _ (r : Row) (w : Rowed (left s 0 (f * 16)) s [] r) where
       on : left-forms f ≡ left-forms (suc f) → left-forms f ≡ left-forms (f + 1)

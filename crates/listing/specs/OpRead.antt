@@ -124,6 +124,15 @@ unfolding joined _and-then_
 joined-both a b none = refl
 joined-both a b (some q) = rw append-assoc
 
+-- No maximum is 0: after the last one stands 0,
+pub maxima-end : (r j : ℕ) → r < 75 → getD (maxima-of r) j 0 ≡ 0 → drop j (maxima-of r) ≡ []
+unfolding good
+maxima-end r j low e = zero-past (maxima-of r) j (and-l (no-zero (maxima-of r)) (known-all (maxima-of r)) (at-each 75 good all-good r low)) e
+
+-- and what is not 0 stands before its end.
+pub maxima-here : (r j : ℕ) → (getD (maxima-of r) j 0 ≡ 0 → ⊥) → j < length (maxima-of r)
+maxima-here r j n = inside (maxima-of r) j n
+
 pub maxima-short : (r : ℕ) → r < 75 → length (maxima-of r) ≤ 3
 unfolding maxima-of
 maxima-short r low = let q = row-of r low in omega (arith, ap length (q .maxima), q .short)
@@ -155,8 +164,7 @@ module _ (r : ℕ) (s : Bytes) (at : ℕ) where
 
     pub no-more : getD (maxima-of r) j 0 ≡ 0 → (w : Row) → w .ok ≡ true → w .next ≡ i → w .count ≡ j → w .vals ≡ vals
         → Rowed (numbers-at (maxima-of r) (drop at s)) s [] w
-    unfolding good
-    no-more e = ended (zero-past (maxima-of r) j (and-l (no-zero (maxima-of r)) (known-all (maxima-of r)) (at-each 75 good all-good r low)) e)
+    no-more e = ended (maxima-end r j low e)
 
     pub all-read : 3 ≤ j → (w : Row) → w .ok ≡ true → w .next ≡ i → w .count ≡ j → w .vals ≡ vals
         → Rowed (numbers-at (maxima-of r) (drop at s)) s [] w
@@ -164,7 +172,7 @@ module _ (r : ℕ) (s : Bytes) (at : ℕ) where
 
     module _ (n : getD (maxima-of r) j 0 ≡ 0 → ⊥) where
       here : j < length (maxima-of r)
-      here = inside (maxima-of r) j n
+      here = maxima-here r j n
 
       by-max : number-at (admitted (max-code (getD (maxima-of r) j 0))) (drop i s) ≡ number-at (λ k. leb k (getD (maxima-of r) j 0)) (drop i s)
       unfolding good

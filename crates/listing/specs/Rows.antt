@@ -101,9 +101,13 @@ value-at c bs = elim (eqb c 140) [ true ↦ shape-word bs | false ↦ elim (eqb 
 unfoldable pub code-after : ℕ → ℕ → ℕ
 code-after j c = choose (eqb c 141) j (j + 1)
 
-formats-long : length formats ≡ 176
+pub formats-long : length formats ≡ 176
 unfolding formats flat form-codes forms filled codes max-code among-code line-forms op-forms ops row form bytes choose is-member
 formats-long = refl
+
+-- the code at a place, before those after it
+pub code-at : (j : ℕ) → j < 176 → up-to (drop j formats) ≡ up-to (getD formats j 0 ∷ drop (j + 1) formats)
+code-at j h = ap up-to (drop-cons formats j 0 (omega (arith, formats-long)) ∙ ap (λ (k : ℕ). getD formats j 0 ∷ drop k formats) (sym (add-one j)))
 
 joined-none : (x : Words) → joined [] x ≡ x
 unfolding joined _and-then_
@@ -238,21 +242,18 @@ module _ (s : Bytes) (i j : ℕ) where
   left-out h = rw (drop-of-length-le formats {i = j} (omega (arith, formats-long)))
 
   module _ (h : j < 176) where
-    code-at : up-to (drop j formats) ≡ up-to (getD formats j 0 ∷ drop (j + 1) formats)
-    code-at = ap up-to (drop-cons formats j 0 (omega (arith, formats-long)) ∙ ap (λ (k : ℕ). getD formats j 0 ∷ drop k formats) (sym (add-one j)))
-
     pub left-end : getD formats j 0 ≡ 10 → left s i j ≡ some ([], drop i s)
     unfolding left scan up-to
-    left-end e = rw (code-at, up-to, e)
+    left-end e = rw (code-at j h, up-to, e)
 
     module _ (ne : getD formats j 0 ≡ 10 → ⊥) where
       left-code : left s i j ≡ then-words (item (getD formats j 0) (drop i s)) (scan (up-to (drop (j + 1) formats)))
       unfolding left scan up-to
-      left-code = rw (code-at, up-to, ne-eqb (getD formats j 0) 10 ne)
+      left-code = rw (code-at j h, up-to, ne-eqb (getD formats j 0) 10 ne)
 
       left-there : (k : ℕ) → left s k j ≡ then-words (item (getD formats j 0) (drop k s)) (scan (up-to (drop (j + 1) formats)))
       unfolding left scan up-to
-      left-there k = rw (code-at, up-to, ne-eqb (getD formats j 0) 10 ne)
+      left-there k = rw (code-at j h, up-to, ne-eqb (getD formats j 0) 10 ne)
 
       module _ (hb : getD formats j 0 < 128) where
         left-byte : left s i j ≡ then-words (no-word (strip (getD formats j 0 ∷ []) (drop i s))) (scan (up-to (drop (j + 1) formats)))

@@ -367,7 +367,7 @@ fn value(s: &[u8], i: usize, c: u8) -> Num
 }
 
 // The place in the formats after a value: shapes stay where they are.
-fn code_after(j: usize, c: u8) -> usize
+pub fn code_after(j: usize, c: u8) -> usize
     requires { ⌜ j < 176 ⌝ }
     ensures { λ r. ⌜ r ≡ code-after j c ⌝ }
 {
@@ -770,6 +770,11 @@ fn may_stand(names: &[u64; 781], float: u8, place: u64, e: Entry) -> bool
     false
 }
 
+// The most values of a line: the two shapes and 16 parameters of a signature; and the most LOCALS.
+pub const MOST_VALUES: usize = 18;
+
+pub const MOST_LOCALS: u64 = 32;
+
 // No limit has this number.
 const NO_LIMIT: u64 = 0;
 
@@ -781,13 +786,13 @@ fn own_limit(e: Entry) -> u64
     let vals = e.vals;
     let n = e.count;
     if form == form::SIGNATURE {
-        if 18 < n {
+        if MOST_VALUES < n {
             return limit::TABLE;
         }
         return NO_LIMIT;
     }
     if form == form::CHUNK {
-        if 32 < vals[1] {
+        if MOST_LOCALS < vals[1] {
             return limit::LOCALS;
         }
     }

@@ -16,19 +16,19 @@ use Rattle.bytecode.proofs.cell.Reads as cell-reads
 use Rattle.bytecode.proofs.limited8.Reads as limited8-reads
 use Rattle.bytecode.proofs.float_of.Reads as float-of-reads
 use Rattle.bytecode.proofs.known_const.Reads as known-const-reads
-use Rattle.bytecode.proofs.span_of.Reads as span-of-reads
+use Rattle.bytecode.proofs.constants_of.Reads as constants-of-reads
 use native.Mathlib.Omega.{arith}
 
-span-of-requires : tie.Need-span-of-requires
-span-of-requires c κs = search needs
+constants-of-requires : tie.Need-constants-of-requires
+constants-of-requires c κs = search needs
 
 add-cell : tie.Need-add-cell
 unfolding cap
-add-cell c = omega (arith, c .before .span-of .ensures .within)
+add-cell c = omega (arith, c .before .constants-of .ensures .within)
 
 cell-requires : tie.Need-cell-requires
 unfolding cap
-cell-requires c κs = (omega arith, omega (arith, c .before .span-of .ensures .within), omega arith)
+cell-requires c κs = (omega arith, omega (arith, c .before .constants-of .ensures .within), omega arith)
 
 limited8-requires : tie.Need-limited8-requires
 limited8-requires c κs = search needs
@@ -41,7 +41,7 @@ returns c =
     ∙ ap (λ (f : ℕ). known-const f (c .before .before .limited8 .result)) (c .before .float-of .ensures)
     ∙ ap (known-const (headerOf (c .before .before .before .before .before .before .before .args .t .now) .float))
     (c .before .before .limited8 .ensures ∙ ap (limited 255) (c .before .before .before .cell .ensures)))
-    ∙ const-in (c .before .before .before .before .before .before .before .args .t .now) (c .before .before .before .before .before .before .before .args .k) (c .before .before .before .before .before .before .before .args .j) (c .before .before .before .before .before .span-of .result .first + c .before .before .before .before .before .before .before .args .j) (ap (λ (n : ℕ). n + c .before .before .before .before .before .before .before .args .j) (c .before .before .before .before .before .span-of .ensures .first-is)) (omega (arith, c .before .before .before .before .before .span-of .ensures .count-is))
+    ∙ const-in (c .before .before .before .before .before .before .before .args .t .now) (c .before .before .before .before .before .before .before .args .k) (c .before .before .before .before .before .before .before .args .j) (c .before .before .before .before .before .constants-of .result .first + c .before .before .before .before .before .before .before .args .j) (ap (λ (n : ℕ). n + c .before .before .before .before .before .before .before .args .j) (c .before .before .before .before .before .constants-of .ensures .first-is)) (omega (arith, c .before .before .before .before .before .constants-of .ensures .count-is))
 
 float-of-requires : tie.Need-float-of-requires
 float-of-requires c κs = search needs
@@ -51,9 +51,9 @@ known-const-requires c κs = search needs
 
 returns-2 : tie.Need-returns-2
 unfolding constant-of
-returns-2 c = const-out (c .before .before .before .args .t .now) (c .before .before .before .args .k) (c .before .before .before .args .j) (omega (arith, c .before .span-of .ensures .count-is))
+returns-2 c = const-out (c .before .before .before .args .t .now) (c .before .before .before .args .k) (c .before .before .before .args .j) (omega (arith, c .before .constants-of .ensures .count-is))
 
 pub constant-at-spec : {M : Type 1} → statement M
 constant-at-spec =
     tie.close
-    (tie.spec span-of-requires add-cell cell-requires limited8-requires float-of-requires known-const-requires returns returns-2)
+    (tie.spec constants-of-requires add-cell cell-requires limited8-requires float-of-requires known-const-requires returns returns-2)
