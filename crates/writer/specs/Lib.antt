@@ -1,0 +1,9 @@
+pub mod Put
+pub mod Say
+pub mod Tables
+pub mod Texts
+pub mod Lines
+pub mod Entries
+pub mod Instructions
+pub mod Chunks
+pub mod Said
