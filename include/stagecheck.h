@@ -5,11 +5,11 @@
  * repository. The library needs memcpy and memset and nothing else. It is for x86-64 Linux alone, since the compiler
  * that proves it makes code for that alone.
  *
- * Two functions check a listing; they differ in where the tables are. Four turn a listing or an answer into words. All
- * of them allocate nothing, read and write nothing but what is lent, keep nothing between calls, and end for every
- * input. Calls from several threads are free of each other where what they lend is. What the answer, the sheets and
- * the text are for each listing is proved (docs/PROMISES.md); what follows here in words is that of documents 01
- * and 02.
+ * Two functions check a listing; they differ in where the tables are. One reads a listing into tables, and one writes
+ * what tables hold back as a listing. Four turn a listing or an answer into words. All of them allocate nothing, read
+ * and write nothing but what is lent, keep nothing between calls, and end for every input. Calls from several threads
+ * are free of each other where what they lend is. What the answer, the sheets, the text and the listing that is written
+ * are is proved (docs/PROMISES.md); what follows here in words is that of documents 01 and 02.
  *
  * Floats: a listing whose first line says F 0 is one for a controller without floats. Kind 5, the float, is then a kind
  * that is not known: an op that names it is refused with 1, a shared entry of it with 16, and a shape or a constant of
@@ -17,8 +17,8 @@
  * refused with 1.
  *
  * Time: no limit of time is built in. Loops in loops multiply the passes of the walk, and a listing that keeps all
- * limits can keep a call busy practically for ever (docs/BENCH.md). A controller needs a limit of its own: a watchdog,
- * or a process that it can end. A later version brings one.
+ * limits can keep a check busy practically for ever (docs/BENCH.md). A controller needs a limit of its own: a watchdog,
+ * or a process that it can end. A later version brings one. stagecheck_read and stagecheck_write walk nothing.
  *
  * Stack: allow 1 MiB. Measured, the whole program's: eight nested loops 396 KiB, with lent tables 224; eight nested Ifs
  * 280 KiB, with lent tables 104 (docs/BENCH.md). stagecheck_text has its tables on the stack too, and sheets: 404 and
@@ -30,8 +30,8 @@
  *   - each pointer is good for its length; it may be null where the length is 0;
  *   - `answer`, `tables` and the `text` of stagecheck_text have a fixed length and are never null; `answer` and
  *     `tables` are aligned as uint64_t is;
- *   - what is written (sheets, answer, tables, text) overlaps nothing else that is lent, and nobody else writes to what
- *     is lent, or reads what is written, before the call returns.
+ *   - what is written (sheets, answer, tables, text, out) overlaps nothing else that is lent, and nobody else writes to
+ *     what is lent, or reads what is written, before the call returns.
  */
 #ifndef STAGECHECK_H
 #define STAGECHECK_H
@@ -44,22 +44,22 @@ extern "C" {
 #endif
 
 /* The version of this header and of the library, as in the file VERSION. */
-#define STAGECHECK_VERSION "2.0.0"
+#define STAGECHECK_VERSION "2.1.0"
 /* The words of an answer. */
 #define STAGECHECK_ANSWER_WORDS 8
 /* The words of the tables, 174 KiB. */
 #define STAGECHECK_TABLE_WORDS 22232
-/* The most bytes of a listing; a longer one is refused with 2, limit 1. */
+/* The most bytes of a listing; a longer one is refused with 2, limit 1, and a buffer of so many is never too short. */
 #define STAGECHECK_MOST_BYTES 65536
 /* The most instructions of a listing: sheets of so many entries are never too short. */
 #define STAGECHECK_MOST_INSTRUCTIONS 4096
 /* The bytes that the longest text of stagecheck_text has room in. */
 #define STAGECHECK_TEXT_BYTES 73746
 
-/* Word 0 of an answer. 5 to 19 bear the names of the Rust's errors.
+/* Word 0 of an answer. 5 to 19 bear the names of the Rust's errors. No check gives 20.
  *
  * Word 1 of a refusal is the chunk, counted from 0; it is 0 where no chunk is at fault: for 1, for 2 with limits 1
- * to 3, and for 4, 16, 18 and 19. The further words, in this order:
+ * to 3, and for 4, 16, 18, 19 and 20. The further words, in this order:
  *
  *   number, name                       word 2         word 3         word 4         word 5
  *    1 CannotFollow                    lines
@@ -81,12 +81,14 @@ extern "C" {
  *   17 EnumBodySizeMismatch            ip             baked
  *   18 PrivateCompositeLayoutInvalid   index          slot           reason
  *   19 SharedLayoutCountMismatch       shared_slots   layout_len     reason
+ *   20 BufferTooShort                  needed
  */
 enum stagecheck_number {
-    /* Accepted. Word 1: how many chunks. Word 2: how many instructions, of all chunks. */
+    /* Accepted, or read. Word 1: how many chunks. Word 2: how many instructions, of all chunks. Or written. Word 1: how
+     * many bytes. */
     STAGECHECK_ACCEPTED = 0,
     /* A line cannot follow, or the end is missing. lines: how many lines stand before it. An op that names kind 5 where
-     * F is 0 cannot follow. */
+     * F is 0 cannot follow. Of a write: no listing gives what the tables hold; lines is 0. */
     STAGECHECK_CANNOT_FOLLOW = 1,
     /* A limit is passed. ip: the instruction in its chunk, 0 for limits 1 to 3. limit:
      *   1  the listing has more than 65,536 bytes
@@ -142,7 +144,9 @@ enum stagecheck_number {
      *   1  the shared slots do not come first
      *   2  the two numbers differ
      */
-    STAGECHECK_SHARED_LAYOUT_COUNT_MISMATCH = 19
+    STAGECHECK_SHARED_LAYOUT_COUNT_MISMATCH = 19,
+    /* The buffer that a write was lent has fewer than `needed` bytes, the length of the listing. */
+    STAGECHECK_BUFFER_TOO_SHORT = 20
 };
 
 /* Checks a listing.
@@ -176,6 +180,45 @@ size_t stagecheck_check_in(const uint8_t *listing, size_t listing_length,
                            uint8_t *heights, size_t heights_length,
                            uint8_t *blinds, size_t blinds_length,
                            uint64_t *answer);
+
+/* Reads a listing into tables, and checks nothing else: neither nesting nor data layout, and nothing is walked. So what
+ * a check refuses by 3 to 19 is read.
+ *
+ * listing, length            the listing's bytes, any; only read.
+ * tables                     room for STAGECHECK_TABLE_WORDS words. Whatever they hold is of no account. Where the
+ *                            listing is read they hold its module afterwards; after a refusal what they hold is not
+ *                            promised. The words may be kept, copied and handed on, to another process too. What each
+ *                            of them says may change with the version of the library: keep words only as long as one
+ *                            version reads and writes them, and listings for longer.
+ * answer                     as for a check: STAGECHECK_ACCEPTED, chunks and instructions; or 1, or 2 with one of the
+ *                            limits 1 to 3, exactly as a check of the same listing refuses it.
+ *
+ * Returns how many words the answer has: 3, and 4 for refusal 2.
+ */
+size_t stagecheck_read(const uint8_t *listing, size_t length,
+                       uint64_t *tables,
+                       uint64_t *answer);
+
+/* Writes the module that tables hold as its listing. What stagecheck_read has read is written as the same bytes, and
+ * what is written is read as the same module.
+ *
+ * tables                     STAGECHECK_TABLE_WORDS words, any; only read.
+ * out, out_length            the buffer, of any length. The listing is written at its front, without a zero byte at its
+ *                            end; bytes past it keep their values. After a refusal all of them do.
+ * answer                     room for STAGECHECK_ANSWER_WORDS words, all of them written; those that it does not have
+ *                            are 0. STAGECHECK_ACCEPTED and the length of the listing; or 1, chunk 0 and 0 lines, where
+ *                            no listing gives what the tables hold; or else 20, chunk 0 and the length that the listing
+ *                            needs, where out_length is less. With out_length 0 it is only measured.
+ *
+ * Words that stagecheck_read did not leave are safe too. They are refused with 1 where one that counts says what no
+ * listing may say, and no word is cut to what it may: a number past its range, a count past its table, an op that does
+ * not exist, chunks whose rows overlap or leave gaps, equal trap codes, or a listing of more than 65,536 bytes.
+ *
+ * Returns how many words the answer has: 2 where it is written, 3 for a refusal.
+ */
+size_t stagecheck_write(const uint64_t *tables,
+                        uint8_t *out, size_t out_length,
+                        uint64_t *answer);
 
 /* Checks a listing with sheets of 4,096 entries and writes what the program of document 01 prints for it: `accepted
  * CHUNKS INSTRUCTIONS` and a line for each instruction, or `refused` and the refusal's numbers in one line; each line
