@@ -1,6 +1,7 @@
 /* stagecheck [--explain | --json | --quiet] [FILE ..]: checks listings and tells by its exit status what came of it.
- * desk/stagecheck.1 says what it prints. Every answer, text, name and line comes from the static library; what is here
- * are arguments, files, the form of JSON, and the exit status.
+ * stagecheck --rewrite [FILE]: reads a listing and writes it back. desk/stagecheck.1 says what is printed. Every
+ * answer, text, name, line and listing comes from the static library; what is here are arguments, files, the form of
+ * JSON, and the exit status.
  */
 #define _POSIX_C_SOURCE 200809L /* SIGPIPE */
 
@@ -14,16 +15,16 @@
 #include <stdlib.h>
 #include <string.h>
 
-#define USAGE "usage: stagecheck [--explain | --json | --quiet] [FILE ..]"
+#define USAGE "usage: stagecheck [--explain | --json | --quiet] [FILE ..], or stagecheck --rewrite [FILE]"
 
 /* The exit status; with several files the greatest of theirs. */
 enum status { ACCEPTED = 0, REFUSED = 1, FAILED = 2 };
 
-enum mode { PLAIN, EXPLAIN, JSON, QUIET, HELP, VERSION, MODES };
+enum mode { PLAIN, EXPLAIN, JSON, QUIET, REWRITE, HELP, VERSION, MODES };
 
 static const char *const options[MODES] = {
-    [EXPLAIN] = "--explain", [JSON] = "--json",       [QUIET] = "--quiet",
-    [HELP] = "--help",       [VERSION] = "--version",
+    [EXPLAIN] = "--explain", [JSON] = "--json", [QUIET] = "--quiet",
+    [REWRITE] = "--rewrite", [HELP] = "--help", [VERSION] = "--version",
 };
 
 static const char help[] =
@@ -34,11 +35,13 @@ static const char help[] =
     "  --explain    say it in words, with the line at fault\n"
     "  --json       print a JSON object for each file, one on a line\n"
     "  --quiet      print nothing\n"
+    "  --rewrite    check nothing: read one listing and write it back, byte for byte\n"
     "  --help       print this\n"
     "  --version    print the version\n"
     "  --           what follows are files\n"
     "\n"
-    "Exit status: 0 all accepted, 1 some refused, 2 something could not be read, written or understood.\n";
+    "Exit status: 0 all accepted, or written back; 1 some refused; 2 something could not be read, written or\n"
+    "understood.\n";
 
 /* What the fields of a refusal are called, in the order of its values: include/stagecheck.h. */
 static const char *const fields[][4] = {
@@ -61,13 +64,14 @@ static const char *const fields[][4] = {
     [STAGECHECK_ENUM_BODY_SIZE_MISMATCH] = {"ip", "baked"},
     [STAGECHECK_PRIVATE_COMPOSITE_LAYOUT_INVALID] = {"index", "slot", "reason"},
     [STAGECHECK_SHARED_LAYOUT_COUNT_MISMATCH] = {"shared_slots", "layout_len", "reason"},
+    [STAGECHECK_BUFFER_TOO_SHORT] = {"needed"},
 };
 
 /* The listing at hand. One byte more than it may have is enough: whatever follows, the answer is the same. */
 static uint8_t listing[STAGECHECK_MOST_BYTES + 1];
 static size_t listing_length;
 
-/* What the check is lent, and what it gives. */
+/* What the library is lent, and what it gives. */
 static uint64_t tables[STAGECHECK_TABLE_WORDS];
 static uint8_t heights[STAGECHECK_MOST_INSTRUCTIONS];
 static uint8_t blinds[STAGECHECK_MOST_INSTRUCTIONS];
@@ -161,19 +165,52 @@ static size_t explain(uint8_t *text, size_t length)
                               length);
 }
 
-static enum status print_explained(const char *name, const char *heading)
+/* The whole explanation of the answer, to be freed, or null where there is no memory for it. */
+static uint8_t *explanation(const char *name, size_t *length)
 {
-    check();
-    size_t length = explain(NULL, 0);
-    uint8_t *text = malloc(length + 1);
+    *length = explain(NULL, 0);
+    uint8_t *text = malloc(*length + 1);
     if (text == NULL) {
         complain(name, strerror(ENOMEM));
+        return NULL;
+    }
+    explain(text, *length);
+    return text;
+}
+
+static enum status print_explained(const char *name, const char *heading)
+{
+    size_t length;
+    check();
+    uint8_t *text = explanation(name, &length);
+    if (text == NULL) {
         return FAILED;
     }
-    explain(text, length);
     put_lines(heading, text, length);
     free(text);
     return verdict();
+}
+
+/* Standard output is for the listing alone: why there is none is said on standard error. */
+static enum status rewrite(const char *name)
+{
+    static uint8_t written[STAGECHECK_MOST_BYTES];
+    size_t length;
+    stagecheck_read(listing, listing_length, tables, answer);
+    if (verdict() == ACCEPTED) {
+        stagecheck_write(tables, written, sizeof written, answer);
+    }
+    if (verdict() == ACCEPTED) {
+        put(written, answer[1]);
+        return ACCEPTED;
+    }
+    uint8_t *text = explanation(name, &length);
+    if (text == NULL) {
+        return FAILED;
+    }
+    fwrite(text, 1, length, stderr);
+    free(text);
+    return REFUSED;
 }
 
 /* How many bytes the UTF-8 character has that begins here, of two bytes or more; 0 where none does. */
@@ -334,6 +371,8 @@ static enum status check_file(enum mode mode, const char *name, bool is_one_of_s
     case QUIET:
         check();
         return verdict();
+    case REWRITE:
+        return rewrite(name);
     default:
         return print_plain(heading);
     }
@@ -401,6 +440,10 @@ int main(int argc, char **argv)
         put_words(help);
     } else if (mode == VERSION) {
         put_words("stagecheck " STAGECHECK_VERSION "\n");
+    } else if (mode == REWRITE && files > 1) {
+        /* Listings one after the other are no listing, so nobody could read what came out. */
+        complain(options[mode], "takes one file; " USAGE);
+        return FAILED;
     } else {
         status = files > 0 ? check_files(mode, files, argv) : check_files(mode, 1, standard_input);
     }
