@@ -4,7 +4,8 @@
 
 use crate::accepted::Accepted;
 use crate::refusal::Refusal;
-use crate::sys::{self, MOST_INSTRUCTIONS, TABLE_WORDS};
+use crate::sys::{self, MOST_INSTRUCTIONS};
+use crate::tables::Tables;
 
 /// Checks a listing, any bytes. The tables that the check fills, 174 KiB, are allocated for the call: for many listings
 /// keep a [`Checker`].
@@ -25,8 +26,7 @@ pub fn check(listing: &[u8]) -> Result<Accepted, Refusal> {
 /// ```
 #[derive(Clone, Debug)]
 pub struct Checker {
-    /// Not on the stack, of which a thread may have little.
-    tables: Box<[u64; TABLE_WORDS]>,
+    tables: Tables,
     heights: Vec<u8>,
     blinds: Vec<u8>,
 }
@@ -34,11 +34,7 @@ pub struct Checker {
 impl Checker {
     /// With memory of its own.
     pub fn new() -> Self {
-        Checker {
-            tables: vec![0; TABLE_WORDS].try_into().expect("a vector of so many words"),
-            heights: vec![0; MOST_INSTRUCTIONS],
-            blinds: vec![0; MOST_INSTRUCTIONS],
-        }
+        Checker { tables: Tables::new(), heights: vec![0; MOST_INSTRUCTIONS], blinds: vec![0; MOST_INSTRUCTIONS] }
     }
 
     /// Checks a listing, any bytes.
@@ -47,13 +43,11 @@ impl Checker {
     ///
     /// The refusal, where the listing is not accepted.
     pub fn check(&mut self, listing: &[u8]) -> Result<Accepted, Refusal> {
-        let (words, _) = sys::check_in(listing, &mut self.tables, &mut self.heights, &mut self.blinds);
-        if words[0] != 0 {
-            return Err(Refusal::from_words(words));
-        }
+        let words = sys::check_in(listing, self.tables.words_mut(), &mut self.heights, &mut self.blinds);
+        let [_, chunks, instructions, ..] = Refusal::unless_zero(words)?;
         // An accepted listing has at most as many instructions as the sheets have entries.
-        let instructions = words[2] as usize;
-        Ok(Accepted::from_sheets(words[1], &self.heights[..instructions], &self.blinds[..instructions]))
+        let instructions = instructions as usize;
+        Ok(Accepted::from_sheets(chunks, &self.heights[..instructions], &self.blinds[..instructions]))
     }
 }
 

@@ -61,6 +61,20 @@
 //! assert_eq!(stagecheck::check(listing), Err(Refusal::CannotFollow { lines: 3 }));
 //! ```
 //!
+//! # Listings written back
+//!
+//! [`read`] reads a listing and checks nothing else; what it gives is kept in [`Tables`] and written back as the same
+//! bytes, to hand it on. A listing that a check would refuse for another reason is read and written too.
+//!
+//! ```
+//! let listing = b"(module 8 8 6 0 0 8 9\n(chunk 0\n(op Add)\n)\n)\n";
+//! assert!(stagecheck::check(listing).is_err());
+//! let mut out = [0; 100];
+//! let length = stagecheck::read(listing)?.write(&mut out)?;
+//! assert_eq!(&out[..length], listing);
+//! # Ok::<(), stagecheck::Refusal>(())
+//! ```
+//!
 //! # Where the library is found
 //!
 //! In the folder that the environment variable `STAGECHECK_LIB_DIR` names when this package is built, as `PREFIX/lib`
@@ -69,8 +83,8 @@
 //! # Time and stack
 //!
 //! A call always ends, but there is no limit of time: loops in loops multiply the passes of the walk, and a listing
-//! within all limits can keep a call busy practically for ever. Where listings come from strangers, call in a process
-//! that can be ended. A call needs up to 224 KiB of stack, measured; threads of Rust have 2 MiB unless told
+//! within all limits can keep a check busy practically for ever. Where listings come from strangers, call in a process
+//! that can be ended. Reading and writing walk nothing. A check needs up to 224 KiB of stack, measured; threads of Rust have 2 MiB unless told
 //! otherwise. The library is for x86-64 Linux.
 
 // `forbid` at the root cannot be lifted for `sys`: so the root denies, and every other module forbids.
@@ -82,7 +96,10 @@ mod check;
 mod refusal;
 #[allow(unsafe_code)]
 mod sys;
+mod tables;
 
 pub use accepted::Accepted;
 pub use check::{Checker, check};
 pub use refusal::{Limit, PrivateReason, Refusal, SharedReason};
+pub use sys::TABLE_WORDS;
+pub use tables::{Counts, Tables, read};

@@ -6,14 +6,14 @@ use crate::sys::ANSWER_WORDS;
 use std::error::Error;
 use std::fmt;
 
-/// Why a listing is refused. Chunks, instructions (`ip`, within their chunk), entries and arguments are counted from
-/// 0. The variants stand in the order of their numbers, 1 to 19.
+/// Why a listing is refused, or not written. Chunks, instructions (`ip`, within their chunk), entries and arguments are
+/// counted from 0. The variants stand in the order of their numbers, 1 to 20.
 #[derive(Clone, Copy, Debug, PartialEq, Eq, Hash)]
 #[non_exhaustive]
 #[allow(missing_docs)] // The fields are said in their variant's sentence.
 pub enum Refusal {
     /// A line cannot follow those before it, or the end is missing; `lines` lines stand before it. An op that names
-    /// kind 5 where F is 0 cannot follow.
+    /// kind 5 where F is 0 cannot follow. Where tables are written and no listing gives them, `lines` is 0.
     CannotFollow { lines: u64 },
     /// A limit is passed. `chunk` and `ip` are 0 for the limits of reading.
     LimitPassed { chunk: u64, ip: u64, limit: Limit },
@@ -54,6 +54,8 @@ pub enum Refusal {
     PrivateCompositeLayoutInvalid { index: u64, slot: u64, reason: PrivateReason },
     /// There are `shared_slots` shared slots and `layout_len` shared entries.
     SharedLayoutCountMismatch { shared_slots: u64, layout_len: u64, reason: SharedReason },
+    /// The buffer for a listing has fewer than `needed` bytes, the listing's length. No check gives it.
+    BufferTooShort { needed: u64 },
     /// A refusal of a later library, which this package does not know: its numbers.
     Unknown([u64; ANSWER_WORDS]),
 }
@@ -129,6 +131,11 @@ fn numbered<T: Copy>(all: &[T], number: u64) -> Option<T> {
 }
 
 impl Refusal {
+    /// The words of an answer, or the refusal that they say.
+    pub(crate) fn unless_zero(words: [u64; ANSWER_WORDS]) -> Result<[u64; ANSWER_WORDS], Self> {
+        if words[0] == 0 { Ok(words) } else { Err(Refusal::from_words(words)) }
+    }
+
     pub(crate) fn from_words(words: [u64; ANSWER_WORDS]) -> Self {
         Refusal::known(words).unwrap_or(Refusal::Unknown(words))
     }
@@ -163,6 +170,7 @@ impl Refusal {
                 layout_len: b,
                 reason: numbered(&SharedReason::ALL, c)?,
             },
+            20 => Refusal::BufferTooShort { needed: a },
             _ => return None,
         })
     }
@@ -200,11 +208,12 @@ impl Refusal {
             Refusal::SharedLayoutCountMismatch { shared_slots, layout_len, reason } => {
                 vec![19, 0, shared_slots, layout_len, reason as u64]
             }
+            Refusal::BufferTooShort { needed } => vec![20, 0, needed],
             Refusal::Unknown(words) => words.to_vec(),
         }
     }
 
-    /// Its number, 1 to 19.
+    /// Its number, 1 to 20.
     pub fn number(&self) -> u64 {
         self.numbers()[0]
     }
@@ -241,6 +250,7 @@ impl Refusal {
             | Refusal::SharedSlotOutOfBounds { .. }
             | Refusal::PrivateCompositeLayoutInvalid { .. }
             | Refusal::SharedLayoutCountMismatch { .. }
+            | Refusal::BufferTooShort { .. }
             | Refusal::Unknown(_) => None,
         }
     }
@@ -273,6 +283,7 @@ impl Refusal {
             CallArgMismatch { callee, arg, .. } => {
                 write!(out, "argument {arg} has not the shape that signature {callee} says")
             }
+            BufferTooShort { needed } => write!(out, "the listing needs a buffer of {needed} bytes"),
             Unknown(words) => write!(out, "a refusal that is not known here, with the numbers {words:?}"),
             OffsetOutOfBounds { .. }
             | NewCompositeSizeMismatch { .. }

@@ -137,7 +137,7 @@ fn words_name_the_values() {
 #[test]
 fn a_number_that_is_not_known_stays_a_refusal() {
     let later =
-        [[20, 1, 2, 3, 0, 0, 0, 0], [2, 0, 0, 7, 0, 0, 0, 0], [18, 0, 1, 1, 0, 0, 0, 0], [19, 0, 1, 1, 9, 0, 0, 0]];
+        [[21, 1, 2, 3, 0, 0, 0, 0], [2, 0, 0, 7, 0, 0, 0, 0], [18, 0, 1, 1, 0, 0, 0, 0], [19, 0, 1, 1, 9, 0, 0, 0]];
     for words in later {
         let refusal = Refusal::from_words(words);
         assert_eq!(refusal, Refusal::Unknown(words));
