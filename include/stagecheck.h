@@ -182,7 +182,7 @@ size_t stagecheck_check_in(const uint8_t *listing, size_t listing_length,
                            uint64_t *answer);
 
 /* Reads a listing into tables, and checks nothing else: neither nesting nor data layout, and nothing is walked. So what
- * a check refuses by 3 to 19 is read.
+ * a check refuses by 3 to 19, or by limits 4 to 6, is read.
  *
  * listing, length            the listing's bytes, any; only read.
  * tables                     room for STAGECHECK_TABLE_WORDS words. Whatever they hold is of no account. Where the
