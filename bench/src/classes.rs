@@ -80,7 +80,7 @@ fn module(params: &[WireShape], local_count: u16, ops: &[Op]) -> Listing {
 }
 
 fn write(params: &[WireShape], local_count: u16, ops: &[Op]) -> Vec<u8> {
-    listing::write(&module(params, local_count, ops)).into_bytes()
+    listing::write(&module(params, local_count, ops))
 }
 
 const INT: Op = Op::Const(0);

@@ -79,7 +79,7 @@ fn original(listing: &Listing) -> Result<(), Refusal> {
     if listing.float_bytes > 0 {
         return original::check(listing);
     }
-    let read = original_without_floats::listing::read(listing::write(listing).as_bytes());
+    let read = original_without_floats::listing::read(&listing::write(listing));
     read.and_then(|listing| original_without_floats::check(&listing)).map_err(with_own_type)
 }
 

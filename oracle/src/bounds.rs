@@ -33,7 +33,7 @@ pub fn listing(random: &mut Random, scope: Scope) -> Vec<u8> {
             listing.module.chunks.push(chunk);
         }
     }
-    listing::write(&listing).into_bytes()
+    listing::write(&listing)
 }
 
 /// Exactly the most bytes, one more, or many more (limit 1).
@@ -56,7 +56,7 @@ fn long(random: &mut Random, mut listing: Listing) -> Vec<u8> {
         left -= 11 + digits;
     }
     listing.module.chunks = vec![chunk];
-    listing::write(&listing).into_bytes()
+    listing::write(&listing)
 }
 
 /// A table with all the entries that it may have, or one more (limit 2).

@@ -154,10 +154,10 @@ macro_rules! variants {
                 }
             }
 
-            fn write(&self, out: &mut String) {
+            fn write(&self, out: &mut Vec<u8>) {
                 match self {
                     $($operand::$variant $({ $($field),+ })? => {
-                        out.push_str(concat!(" ", stringify!($variant)));
+                        out.extend_from_slice(concat!(" ", stringify!($variant)).as_bytes());
                         $($($field.write(out);)+)?
                     })+
                 }
@@ -241,10 +241,10 @@ macro_rules! ops {
             }
 
             /// Writes the name and the operands.
-            pub fn write(&self, out: &mut String) {
+            pub fn write(&self, out: &mut Vec<u8>) {
                 match self {
                     $(Op::$name $(($($operand),+))? => {
-                        out.push_str(stringify!($name));
+                        out.extend_from_slice(stringify!($name).as_bytes());
                         $($($operand.write(out);)+)?
                     })+
                 }
@@ -276,6 +276,15 @@ ops! {
     If(target: u16), BreakIf(target: u16), Else(target: u16), EndIf, Loop(target: u16), EndLoop(target: u16),
     Break(target: u16),
     Stream, Reset, Return,
+}
+
+impl Op {
+    /// The name and the operands.
+    pub fn text(&self) -> String {
+        let mut out = Vec::new();
+        self.write(&mut out);
+        String::from_utf8(out).expect("an op is written in letters and digits")
+    }
 }
 
 impl Name {

@@ -1,9 +1,10 @@
 //! A choice of listings: of each class as many as wanted, and besides all that reach what too few earlier ones do.
 
 use crate::generator::Size;
-use crate::listing::{MAX_CONSTANTS, MAX_ENTRIES, MAX_OPS, MAX_SLOTS};
+use crate::listing::MAX_OPS;
 use crate::survey::{self, Survey};
 use crate::whole;
+use crate::words::Table;
 use std::collections::BTreeMap;
 
 /// What a listing is counted as.
@@ -36,20 +37,11 @@ impl Class {
 
 /// The table that a listing overfills.
 pub fn overfull(bytes: &[u8]) -> &'static str {
-    let tables = [
-        ("(slot ", MAX_SLOTS),
-        ("(shared ", MAX_SLOTS),
-        ("(private ", MAX_SLOTS),
-        ("(enum ", MAX_ENTRIES),
-        ("(native ", MAX_ENTRIES),
-        ("(sig ", MAX_ENTRIES),
-        ("(chunk ", MAX_ENTRIES),
-        ("(const ", MAX_CONSTANTS),
-        ("(op ", MAX_OPS),
-    ];
-    let lines =
-        |word: &str| bytes.split(|byte| *byte == b'\n').filter(|line| line.starts_with(word.as_bytes())).count();
-    tables.into_iter().find(|(word, most)| lines(word) > *most).map_or("parameters", |(word, _)| word)
+    let lines = |table: &Table| {
+        bytes.split(|byte| *byte == b'\n').filter(|line| line.starts_with(table.begin().as_bytes())).count()
+    };
+    let overfull = Table::ALL.into_iter().find(|table| lines(table) > table.most());
+    overfull.map_or("parameters", |table| table.begin())
 }
 
 pub struct Choice {

@@ -15,8 +15,13 @@ use std::fmt;
 /// The words of an answer: 0, chunks and instructions, or a refusal's numbers; the rest are 0.
 pub const ANSWER_WORDS: usize = 8;
 
+pub type AnswerWords = [u64; ANSWER_WORDS];
+
+/// What an answer is filled with before a call: no call leaves it.
+pub const NO_ANSWER: AnswerWords = [u64::MAX; ANSWER_WORDS];
+
 /// A checker: the listing, the height sheet, the blind sheet, the answer. It gives how many words the answer has.
-pub type Check<'a> = &'a dyn Fn(&[u8], &mut [u8], &mut [u8], &mut [u64; ANSWER_WORDS]) -> usize;
+pub type Check<'a> = &'a dyn Fn(&[u8], &mut [u8], &mut [u8], &mut AnswerWords) -> usize;
 
 // ── One call ─────────────────────────────────────────────────────────────────────────────
 
@@ -92,6 +97,13 @@ impl Sheet {
     }
 }
 
+/// How an answer of so many words differs from the expected one.
+pub fn answer_fault(answer: &AnswerWords, count: usize, expected: &[u64]) -> Option<String> {
+    let (words, rest) = answer.split_at(count.min(ANSWER_WORDS));
+    let is_right = words == expected && rest.iter().all(|word| *word == 0);
+    (!is_right).then(|| format!("answers {words:?}, then {rest:?}, and not {expected:?}"))
+}
+
 /// Calls the checker with sheets of these lengths. Gives the words of its answer, and how the call differs from what
 /// is expected.
 fn call(
@@ -103,16 +115,12 @@ fn call(
 ) -> (Vec<u64>, Vec<String>) {
     let mut heights = Sheet::new("height", lengths.0, random);
     let mut blinds = Sheet::new("blind", lengths.1, random);
-    let mut answer = [u64::MAX; ANSWER_WORDS];
-    let count = check(bytes, heights.lent(), blinds.lent(), &mut answer).min(ANSWER_WORDS);
-    let (words, rest) = answer.split_at(count);
-    let mut faults = Vec::new();
-    if words != expected.words || rest.iter().any(|word| *word != 0) {
-        faults.push(format!("answers {words:?}, then {rest:?}, and not {:?}", expected.words));
-    }
+    let mut answer = NO_ANSWER;
+    let count = check(bytes, heights.lent(), blinds.lent(), &mut answer);
+    let mut faults: Vec<String> = answer_fault(&answer, count, &expected.words).into_iter().collect();
     faults.extend(heights.fault(&expected.heights));
     faults.extend(blinds.fault(&expected.blinds));
-    (words.to_vec(), faults)
+    (answer[..count.min(ANSWER_WORDS)].to_vec(), faults)
 }
 
 /// Lengths of two sheets that have room for so many instructions: exact, longer, the most, and unequal ones.
@@ -276,7 +284,7 @@ mod tests {
     use super::*;
     use crate::twins;
 
-    type Call<'a> = (&'a [u8], &'a mut [u8], &'a mut [u8], &'a mut [u64; ANSWER_WORDS]);
+    type Call<'a> = (&'a [u8], &'a mut [u8], &'a mut [u8], &'a mut AnswerWords);
 
     /// The second walk as a checker: one that is right.
     fn right((bytes, heights, blinds, answer): Call) -> usize {
@@ -297,7 +305,7 @@ mod tests {
 
     /// How many of 2,000 listings a checker differs on that is right but for a change after its call.
     fn disagreements(spoil: fn(Call, &mut usize)) -> usize {
-        let check = |bytes: &[u8], heights: &mut [u8], blinds: &mut [u8], answer: &mut [u64; ANSWER_WORDS]| {
+        let check = |bytes: &[u8], heights: &mut [u8], blinds: &mut [u8], answer: &mut AnswerWords| {
             let mut count = right((bytes, &mut *heights, &mut *blinds, &mut *answer));
             spoil((bytes, heights, blinds, answer), &mut count);
             count
@@ -308,7 +316,7 @@ mod tests {
     /// The same for a checker that is right but for what it takes a listing with F 0 for: on how many it differs from the
     /// original, and on how many in all.
     fn disagreements_without_floats(mistake: fn(&[u8]) -> Vec<u8>) -> (u64, usize) {
-        let check = |bytes: &[u8], heights: &mut [u8], blinds: &mut [u8], answer: &mut [u64; ANSWER_WORDS]| {
+        let check = |bytes: &[u8], heights: &mut [u8], blinds: &mut [u8], answer: &mut AnswerWords| {
             let taken_for = if twins::is_without_floats(bytes) { mistake(bytes) } else { bytes.to_vec() };
             right((&taken_for, heights, blinds, answer))
         };

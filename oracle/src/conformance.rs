@@ -5,7 +5,7 @@ use crate::answer::answer;
 use crate::choice::{Choice, Class};
 use crate::forms;
 use crate::generator::{self, Size};
-use crate::listing::{MAX_BYTES, MAX_OPS};
+use crate::listing::{MAX_BYTES, MAX_OPS, OP};
 use crate::replay;
 use crate::survey::{self, Survey, count};
 use crate::whole::{self, whole};
@@ -68,7 +68,7 @@ fn wanted_long(class: &Class) -> usize {
         Class::Accepted(MAX_OPS) => 1,
         Class::Accepted(600) => 60,
         Class::Accepted(_) => 3,
-        Class::Overfull("(op ") => 1,
+        Class::Overfull(OP) => 1,
         Class::Overfull(_) => 2,
         Class::Refused(kind) if kind == "refused  2, limit 1" => 2,
         Class::Refused(_) => 45,

@@ -1,4 +1,4 @@
-//! The pieces of a listing's lines: words, numbers and operands, read strictly and written back.
+//! The pieces of a listing's lines: words, numbers, operands and entries, read strictly and written back.
 
 use crate::value_layout::{CompositeKind, ScalarKind};
 
@@ -61,10 +61,32 @@ impl<'a> Cursor<'a> {
     }
 }
 
-/// An operand of an op: read after its space, and written with it.
+/// What stands in a line after its first word: read with the space before it, and so written.
 pub trait Operand: Sized {
     fn read(cursor: &mut Cursor) -> Option<Self>;
-    fn write(&self, out: &mut String);
+    fn write(&self, out: &mut Vec<u8>);
+}
+
+/// What a line of its own says, between its first word and its bracket.
+pub trait Entry: Operand {
+    /// The bracket and the first word.
+    const BEGIN: &'static str;
+}
+
+/// Writes a space and a number. Digit by digit, as it is read: what formats any value at all takes several times as long.
+fn write_number(number: u32, out: &mut Vec<u8>) {
+    let mut text = [b' '; " 4294967295".len()];
+    let mut first = text.len();
+    let mut left = number;
+    loop {
+        first -= 1;
+        text[first] = b'0' + (left % 10) as u8;
+        left /= 10;
+        if left == 0 {
+            break;
+        }
+    }
+    out.extend_from_slice(&text[first - 1..]);
 }
 
 macro_rules! number_operands {
@@ -74,8 +96,8 @@ macro_rules! number_operands {
                 Self::try_from(cursor.number(u32::from(Self::MAX))?).ok()
             }
 
-            fn write(&self, out: &mut String) {
-                out.push_str(&format!(" {self}"));
+            fn write(&self, out: &mut Vec<u8>) {
+                write_number(u32::from(*self), out);
             }
         }
     )+};
@@ -94,7 +116,7 @@ impl Operand for ScalarKind {
         ScalarKind::from_tag(tag)
     }
 
-    fn write(&self, out: &mut String) {
+    fn write(&self, out: &mut Vec<u8>) {
         self.to_tag().write(out);
     }
 }
@@ -105,7 +127,7 @@ impl Operand for CompositeKind {
         CompositeKind::from_tag(u8::read(cursor)?)
     }
 
-    fn write(&self, out: &mut String) {
+    fn write(&self, out: &mut Vec<u8>) {
         self.to_tag().write(out);
     }
 }

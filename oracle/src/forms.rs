@@ -36,7 +36,8 @@ pub struct OpForm {
 /// The ops that open, close or leave a block.
 const STRUCTURAL: [&str; 7] = ["If", "Else", "EndIf", "Loop", "EndLoop", "Break", "BreakIf"];
 
-fn op_of(text: &str) -> Option<Op> {
+/// The op that a text is, if it is one.
+pub fn op_of(text: &str) -> Option<Op> {
     let mut cursor = Cursor::new(text.as_bytes());
     let mut ops = Vec::new();
     Op::read(&mut cursor, &mut ops)?;
@@ -59,7 +60,8 @@ pub fn op_forms() -> Vec<OpForm> {
     forms
 }
 
-fn with(text: &str, operands: &[u64]) -> String {
+/// A text with numbers behind it.
+pub fn with(text: &str, operands: &[u64]) -> String {
     operands.iter().fold(text.to_string(), |line, operand| format!("{line} {operand}"))
 }
 

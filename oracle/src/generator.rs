@@ -84,18 +84,14 @@ fn whole(random: &mut Random, scope: Scope) -> Vec<u8> {
     loop {
         let (bytes, most_ops) = match random.below(100) {
             0..5 => (bounds::listing(random, scope), SMALL_OPS_AT_A_LIMIT),
-            5..12 => (write(&chains::listing(random, scope)), SMALL_OPS),
-            12..18 => (write(&misnested(random, scope)), SMALL_OPS),
-            _ => (write(&program(random, scope)), SMALL_OPS),
+            5..12 => (listing::write(&chains::listing(random, scope)), SMALL_OPS),
+            12..18 => (listing::write(&misnested(random, scope)), SMALL_OPS),
+            _ => (listing::write(&program(random, scope)), SMALL_OPS),
         };
         if !scope.small || (bytes.len() <= SMALL_BYTES && count_ops(&bytes) <= most_ops) {
             return bytes;
         }
     }
-}
-
-fn write(listing: &Listing) -> Vec<u8> {
-    listing::write(listing).into_bytes()
 }
 
 fn count_ops(bytes: &[u8]) -> usize {

@@ -13,8 +13,10 @@ pub mod layout;
 pub mod limits;
 pub mod nesting;
 pub mod replay;
+pub mod rewrite;
 pub mod twins;
 pub mod whole;
+pub mod words;
 
 // The listings.
 mod bounds;

@@ -4,7 +4,7 @@ use crate::bytecode::{
     Chunk, ChunkSignature, ConstValue, DataLayout, DataSlot, EnumLayout, Module, Op, PrivateCompositeLayout,
     SharedSlotLayout, SlotVisibility, WireShape,
 };
-use crate::form::{Cursor, Operand};
+use crate::form::{Cursor, Entry, Operand};
 use crate::refusal::Refusal;
 
 /// The most bytes that a listing may have (limit 1).
@@ -44,6 +44,123 @@ impl Listing {
     }
 }
 
+// ── Lines ────────────────────────────────────────────────────────────────────────────────
+
+/// The beginnings of the lines that are no entry of a table alone.
+pub const MODULE: &str = "(module";
+pub const CHUNK: &str = "(chunk";
+pub const OP: &str = "(op";
+/// The end of an entry's line. The module and each chunk are closed by a line of their own, which is the same.
+pub const CLOSE: &str = ")\n";
+
+/// Declares an entry's line: how it begins, and what stands in it, in that order.
+macro_rules! entries {
+    ($($entry:ident $begin:literal { $($field:ident),+ }),+ $(,)?) => {$(
+        impl Operand for $entry {
+            fn read(cursor: &mut Cursor) -> Option<Self> {
+                Some($entry { $($field: Operand::read(cursor)?),+ })
+            }
+
+            fn write(&self, out: &mut Vec<u8>) {
+                $(self.$field.write(out);)+
+            }
+        }
+
+        impl Entry for $entry {
+            const BEGIN: &'static str = $begin;
+        }
+    )+};
+}
+
+entries! {
+    DataSlot "(slot" { visibility },
+    SharedSlotLayout "(shared" { offset, kind, len },
+    PrivateCompositeLayout "(private" { slot, offset },
+    EnumLayout "(enum" { min_payload },
+    ChunkSignature "(sig" { ret, resume, params },
+}
+
+impl Entry for WireShape {
+    const BEGIN: &'static str = "(native";
+}
+
+impl Entry for ConstValue {
+    const BEGIN: &'static str = "(const";
+}
+
+impl Operand for SlotVisibility {
+    fn read(cursor: &mut Cursor) -> Option<Self> {
+        cursor.text(" ")?;
+        match cursor.word() {
+            b"shared" => Some(SlotVisibility::Shared),
+            b"private" => Some(SlotVisibility::Private),
+            _ => None,
+        }
+    }
+
+    fn write(&self, out: &mut Vec<u8>) {
+        out.extend_from_slice(match self {
+            SlotVisibility::Shared => b" shared",
+            SlotVisibility::Private => b" private",
+        });
+    }
+}
+
+impl Operand for WireShape {
+    fn read(cursor: &mut Cursor) -> Option<Self> {
+        cursor.text(" (")?;
+        let shape = match cursor.word() {
+            b"top" => WireShape::Top,
+            b"scalar" => WireShape::Scalar { kind: u8::read(cursor)? },
+            b"flat" => WireShape::Flat { kind: u8::read(cursor)?, size: u32::read(cursor)? },
+            _ => return None,
+        };
+        cursor.text(")")?;
+        Some(shape)
+    }
+
+    fn write(&self, out: &mut Vec<u8>) {
+        match self {
+            WireShape::Top => out.extend_from_slice(b" (top"),
+            WireShape::Scalar { kind } => {
+                out.extend_from_slice(b" (scalar");
+                kind.write(out);
+            }
+            WireShape::Flat { kind, size } => {
+                out.extend_from_slice(b" (flat");
+                kind.write(out);
+                size.write(out);
+            }
+        }
+        out.push(b')');
+    }
+}
+
+/// As many shapes as there are.
+impl Operand for Vec<WireShape> {
+    fn read(cursor: &mut Cursor) -> Option<Self> {
+        let mut shapes = Vec::new();
+        while cursor.is_at(b' ') {
+            shapes.push(WireShape::read(cursor)?);
+        }
+        Some(shapes)
+    }
+
+    fn write(&self, out: &mut Vec<u8>) {
+        self.iter().for_each(|shape| shape.write(out));
+    }
+}
+
+impl Operand for ConstValue {
+    fn read(cursor: &mut Cursor) -> Option<Self> {
+        ConstValue::from_tag(u8::read(cursor)?)
+    }
+
+    fn write(&self, out: &mut Vec<u8>) {
+        self.to_tag().write(out);
+    }
+}
+
 // ── Reading ──────────────────────────────────────────────────────────────────────────────
 
 /// Reads a listing: refusals 1 and 2 (limits 1 to 3). It goes over the bytes once and allocates nothing but the tables.
@@ -74,36 +191,31 @@ fn listing(cursor: &mut Cursor) -> Result<Listing, Fault> {
     let mut listing = header(cursor).ok_or(Fault::CannotFollow)?;
     let module = &mut listing.module;
     module.data_layout = Some(DataLayout {
-        slots: table(cursor, "(slot ", slot, MAX_SLOTS)?,
-        shared_layout: table(cursor, "(shared", shared, MAX_SLOTS)?,
-        private_composite_layout: table(cursor, "(private", private, MAX_SLOTS)?,
+        slots: table(cursor, MAX_SLOTS)?,
+        shared_layout: table(cursor, MAX_SLOTS)?,
+        private_composite_layout: table(cursor, MAX_SLOTS)?,
     });
-    module.enum_layouts = table(cursor, "(enum", enumeration, MAX_ENTRIES)?;
-    module.native_return_shapes = table(cursor, "(native", shape, MAX_ENTRIES)?;
+    module.enum_layouts = table(cursor, MAX_ENTRIES)?;
+    module.native_return_shapes = table(cursor, MAX_ENTRIES)?;
     module.signatures = signatures(cursor)?;
     module.chunks = chunks(cursor)?;
     close(cursor)?;
     if cursor.bytes_left() == 0 { Ok(listing) } else { Err(Fault::CannotFollow) }
 }
 
-/// Takes a line that begins so, if one comes.
-fn entry<T>(cursor: &mut Cursor, begin: &str, form: impl Fn(&mut Cursor) -> Option<T>) -> Result<Option<T>, Fault> {
-    if cursor.text(begin).is_none() {
+/// Takes an entry's line, if one comes.
+fn entry<T: Entry>(cursor: &mut Cursor) -> Result<Option<T>, Fault> {
+    if cursor.text(T::BEGIN).is_none() {
         return Ok(None);
     }
-    let entry = form(cursor).ok_or(Fault::CannotFollow)?;
+    let entry = T::read(cursor).ok_or(Fault::CannotFollow)?;
     close(cursor)?;
     Ok(Some(entry))
 }
 
-fn table<T>(
-    cursor: &mut Cursor,
-    begin: &str,
-    form: impl Fn(&mut Cursor) -> Option<T>,
-    max: usize,
-) -> Result<Vec<T>, Fault> {
+fn table<T: Entry>(cursor: &mut Cursor, max: usize) -> Result<Vec<T>, Fault> {
     let mut entries = Vec::new();
-    while let Some(entry) = entry(cursor, begin, &form)? {
+    while let Some(entry) = entry(cursor)? {
         if entries.len() == max {
             return Err(Fault::TableFull);
         }
@@ -113,8 +225,8 @@ fn table<T>(
 }
 
 fn signatures(cursor: &mut Cursor) -> Result<Vec<ChunkSignature>, Fault> {
-    let mut signatures = Vec::new();
-    while let Some(signature) = entry(cursor, "(sig", signature)? {
+    let mut signatures: Vec<ChunkSignature> = Vec::new();
+    while let Some(signature) = entry::<ChunkSignature>(cursor)? {
         if signatures.len() == MAX_ENTRIES || signature.params.len() > MAX_PARAMS {
             return Err(Fault::TableFull);
         }
@@ -126,7 +238,7 @@ fn signatures(cursor: &mut Cursor) -> Result<Vec<ChunkSignature>, Fault> {
 fn chunks(cursor: &mut Cursor) -> Result<Vec<Chunk>, Fault> {
     let mut chunks = Vec::new();
     let (mut constants_left, mut ops_left) = (MAX_CONSTANTS, MAX_OPS);
-    while cursor.text("(chunk").is_some() {
+    while cursor.text(CHUNK).is_some() {
         let local_count = u16::read(cursor).ok_or(Fault::CannotFollow)?;
         cursor.text("\n").ok_or(Fault::CannotFollow)?;
         if chunks.len() == MAX_ENTRIES {
@@ -135,7 +247,7 @@ fn chunks(cursor: &mut Cursor) -> Result<Vec<Chunk>, Fault> {
         if local_count > MAX_LOCALS {
             return Err(Fault::TooManyLocals);
         }
-        let constants = table(cursor, "(const", constant, constants_left)?;
+        let constants = table(cursor, constants_left)?;
         let ops = ops(cursor, ops_left)?;
         close(cursor)?;
         constants_left -= constants.len();
@@ -147,7 +259,8 @@ fn chunks(cursor: &mut Cursor) -> Result<Vec<Chunk>, Fault> {
 
 fn ops(cursor: &mut Cursor, max: usize) -> Result<Vec<Op>, Fault> {
     let mut ops = Vec::new();
-    while cursor.text("(op ").is_some() {
+    while cursor.text(OP).is_some() {
+        cursor.text(" ").ok_or(Fault::CannotFollow)?;
         Op::read(cursor, &mut ops).ok_or(Fault::CannotFollow)?;
         close(cursor)?;
         if ops.len() > max {
@@ -157,13 +270,12 @@ fn ops(cursor: &mut Cursor, max: usize) -> Result<Vec<Op>, Fault> {
     Ok(ops)
 }
 
-/// Takes the end of an entry's line. The module and each chunk are closed by a line of their own, which is the same.
 fn close(cursor: &mut Cursor) -> Result<(), Fault> {
-    cursor.text(")\n").ok_or(Fault::CannotFollow)
+    cursor.text(CLOSE).ok_or(Fault::CannotFollow)
 }
 
 fn header(cursor: &mut Cursor) -> Option<Listing> {
-    cursor.text("(module")?;
+    cursor.text(MODULE)?;
     let word_bytes = cursor.number(8).filter(|bytes| bytes.is_power_of_two())? as usize;
     let float_bytes = cursor.number(8).filter(|bytes| *bytes == 0 || bytes.is_power_of_two())? as usize;
     cursor.has_floats = float_bytes > 0;
@@ -177,129 +289,75 @@ fn header(cursor: &mut Cursor) -> Option<Listing> {
     Some(Listing { word_bytes, float_bytes, index_code, host_code, module })
 }
 
-fn slot(cursor: &mut Cursor) -> Option<DataSlot> {
-    let visibility = match cursor.word() {
-        b"shared" => SlotVisibility::Shared,
-        b"private" => SlotVisibility::Private,
-        _ => return None,
-    };
-    Some(DataSlot { visibility })
-}
-
-fn shared(cursor: &mut Cursor) -> Option<SharedSlotLayout> {
-    Some(SharedSlotLayout { offset: u32::read(cursor)?, kind: u8::read(cursor)?, len: u16::read(cursor)? })
-}
-
-fn private(cursor: &mut Cursor) -> Option<PrivateCompositeLayout> {
-    Some(PrivateCompositeLayout { slot: u16::read(cursor)?, offset: u32::read(cursor)? })
-}
-
-fn enumeration(cursor: &mut Cursor) -> Option<EnumLayout> {
-    Some(EnumLayout { min_payload: u32::read(cursor)? })
-}
-
-fn shape(cursor: &mut Cursor) -> Option<WireShape> {
-    cursor.text(" (")?;
-    let shape = match cursor.word() {
-        b"top" => WireShape::Top,
-        b"scalar" => WireShape::Scalar { kind: u8::read(cursor)? },
-        b"flat" => WireShape::Flat { kind: u8::read(cursor)?, size: u32::read(cursor)? },
-        _ => return None,
-    };
-    cursor.text(")")?;
-    Some(shape)
-}
-
-fn signature(cursor: &mut Cursor) -> Option<ChunkSignature> {
-    let ret = shape(cursor)?;
-    let resume = shape(cursor)?;
-    let mut params = Vec::new();
-    while cursor.is_at(b' ') {
-        params.push(shape(cursor)?);
-    }
-    Some(ChunkSignature { params, ret, resume })
-}
-
-fn constant(cursor: &mut Cursor) -> Option<ConstValue> {
-    ConstValue::from_tag(u8::read(cursor)?)
-}
-
 // ── Writing ──────────────────────────────────────────────────────────────────────────────
 
 /// Writes a listing. Reading gives the same listing back.
-pub fn write(listing: &Listing) -> String {
-    let module = &listing.module;
-    let layout = listing.layout();
-    let mut out = format!(
-        "(module {} {} {} {} {} {} {}\n",
-        listing.word_bytes,
-        listing.float_bytes,
-        module.addr_bits_log2,
-        module.shared_data_bytes,
-        module.persistent_composite_bytes,
-        listing.index_code,
-        listing.host_code,
-    );
-    for slot in &layout.slots {
-        out.push_str(match slot.visibility {
-            SlotVisibility::Shared => "(slot shared)\n",
-            SlotVisibility::Private => "(slot private)\n",
-        });
-    }
-    for entry in &layout.shared_layout {
-        out.push_str(&format!("(shared {} {} {})\n", entry.offset, entry.kind, entry.len));
-    }
-    for entry in &layout.private_composite_layout {
-        out.push_str(&format!("(private {} {})\n", entry.slot, entry.offset));
-    }
-    for entry in &module.enum_layouts {
-        out.push_str(&format!("(enum {})\n", entry.min_payload));
-    }
-    for shape in &module.native_return_shapes {
-        out.push_str(&format!("(native{})\n", shape_text(shape)));
-    }
-    for sig in &module.signatures {
-        let params: String = sig.params.iter().map(shape_text).collect();
-        out.push_str(&format!("(sig{}{}{params})\n", shape_text(&sig.ret), shape_text(&sig.resume)));
-    }
-    for chunk in &module.chunks {
-        write_chunk(chunk, &mut out);
-    }
-    out.push_str(")\n");
+pub fn write(listing: &Listing) -> Vec<u8> {
+    let mut out = Vec::new();
+    write_to(listing, &mut out);
     out
 }
 
-fn write_chunk(chunk: &Chunk, out: &mut String) {
-    out.push_str(&format!("(chunk {}\n", chunk.local_count));
-    for value in &chunk.constants {
-        out.push_str(&format!("(const {})\n", value.to_tag()));
+/// Writes a listing behind what `out` holds. It allocates nothing but what `out` lacks.
+pub fn write_to(listing: &Listing, out: &mut Vec<u8>) {
+    let module = &listing.module;
+    let layout = listing.layout();
+    write_header(listing, out);
+    write_table(&layout.slots, out);
+    write_table(&layout.shared_layout, out);
+    write_table(&layout.private_composite_layout, out);
+    write_table(&module.enum_layouts, out);
+    write_table(&module.native_return_shapes, out);
+    write_table(&module.signatures, out);
+    for chunk in &module.chunks {
+        write_text(CHUNK, out);
+        chunk.local_count.write(out);
+        out.push(b'\n');
+        write_table(&chunk.constants, out);
+        chunk.ops.iter().for_each(|op| write_op(op, out));
+        write_text(CLOSE, out);
     }
-    for op in &chunk.ops {
-        write_op(op, out);
-    }
-    out.push_str(")\n");
+    write_text(CLOSE, out);
 }
 
-fn write_op(op: &Op, out: &mut String) {
-    out.push_str("(op ");
+fn write_text(text: &str, out: &mut Vec<u8>) {
+    out.extend_from_slice(text.as_bytes());
+}
+
+fn write_header(listing: &Listing, out: &mut Vec<u8>) {
+    let module = &listing.module;
+    write_text(MODULE, out);
+    for bytes in [listing.word_bytes, listing.float_bytes] {
+        u8::try_from(bytes).expect("a width is small").write(out);
+    }
+    module.addr_bits_log2.write(out);
+    module.shared_data_bytes.write(out);
+    module.persistent_composite_bytes.write(out);
+    listing.index_code.write(out);
+    listing.host_code.write(out);
+    out.push(b'\n');
+}
+
+fn write_table<T: Entry>(entries: &[T], out: &mut Vec<u8>) {
+    for entry in entries {
+        write_text(T::BEGIN, out);
+        entry.write(out);
+        write_text(CLOSE, out);
+    }
+}
+
+fn write_op(op: &Op, out: &mut Vec<u8>) {
+    write_text(OP, out);
+    out.push(b' ');
     op.write(out);
-    out.push_str(")\n");
+    write_text(CLOSE, out);
 }
 
 /// The bytes of an op's line, its LF included.
 pub fn op_bytes(op: &Op) -> usize {
-    let mut line = String::new();
+    let mut line = Vec::new();
     write_op(op, &mut line);
     line.len()
-}
-
-/// A shape with the space before it.
-fn shape_text(shape: &WireShape) -> String {
-    match shape {
-        WireShape::Top => " (top)".to_string(),
-        WireShape::Scalar { kind } => format!(" (scalar {kind})"),
-        WireShape::Flat { kind, size } => format!(" (flat {kind} {size})"),
-    }
 }
 
 #[cfg(test)]
@@ -339,7 +397,7 @@ mod tests {
     #[test]
     fn f_may_be_0_and_a_constant_of_kind_5_is_read_and_written() {
         let text = "(module 8 0 6 0 0 8 9\n(chunk 0\n(const 5)\n(const 255)\n(op FixedMul 5)\n)\n)\n";
-        assert_eq!(write(&read(text.as_bytes()).expect("it is read")), text);
+        assert_eq!(write(&read(text.as_bytes()).expect("it is read")), text.as_bytes());
         for head in ["(module 0 8", "(module 0 0", "(module 8 00", "(module 8 3", "(module 8 16"] {
             assert_eq!(refused(format!("{head} 6 0 0 8 9\n)\n")), [1, 0, 0]);
         }

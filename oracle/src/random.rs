@@ -12,7 +12,8 @@ impl Random {
         Random { state: of_seed.next() ^ of_number.next().rotate_left(32) }
     }
 
-    fn next(&mut self) -> u64 {
+    /// Any number of 64 bits.
+    pub fn next(&mut self) -> u64 {
         self.state = self.state.wrapping_add(0x9E37_79B9_7F4A_7C15);
         let mut z = self.state;
         z = (z ^ (z >> 30)).wrapping_mul(0xBF58_476D_1CE4_E5B9);

@@ -23,6 +23,12 @@ unsafe extern "C" {
         blinds_length: usize,
         answer: *mut u64,
     ) -> usize;
+
+    /// As in include/stagecheck.h.
+    fn stagecheck_read(listing: *const u8, listing_length: usize, tables: *mut u64, answer: *mut u64) -> usize;
+
+    /// As in include/stagecheck.h.
+    fn stagecheck_write(tables: *const u64, out: *mut u8, out_length: usize, answer: *mut u64) -> usize;
 }
 
 /// The words of an answer: 0, chunks and instructions, or a refusal's numbers; the rest are 0.
@@ -71,4 +77,20 @@ pub fn check(listing: &[u8], heights: &mut [u8], blinds: &mut [u8], answer: &mut
             answer.as_mut_ptr(),
         )
     }
+}
+
+/// Reads a listing into tables, whatever they hold, and gives how many words the answer has.
+#[allow(dead_code)]
+pub fn read(listing: &[u8], tables: &mut [u64; TABLE_WORDS], answer: &mut [u64; ANSWER_WORDS]) -> usize {
+    // SAFETY: as in `check`.
+    unsafe { stagecheck_read(listing.as_ptr(), listing.len(), tables.as_mut_ptr(), answer.as_mut_ptr()) }
+}
+
+/// Writes what the tables say into a buffer, and gives how many words the answer has.
+#[allow(dead_code)]
+pub fn write(tables: &[u64; TABLE_WORDS], out: &mut [u8], answer: &mut [u64; ANSWER_WORDS]) -> usize {
+    // A buffer of no bytes may be null, which asks more of the library than a pointer to nothing does.
+    let start = if out.is_empty() { std::ptr::null_mut() } else { out.as_mut_ptr() };
+    // SAFETY: as in `check`.
+    unsafe { stagecheck_write(tables.as_ptr(), start, out.len(), answer.as_mut_ptr()) }
 }

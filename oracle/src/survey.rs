@@ -11,6 +11,7 @@ use crate::generator::{self, Size};
 use crate::limits::{Mark, Notes, Shape, Widths};
 use crate::listing::{self, Listing, MAX_CONSTANTS, MAX_ENTRIES, MAX_LOCALS, MAX_OPS, MAX_PARAMS, MAX_SLOTS};
 use crate::refusal::Refusal;
+use crate::words::Table;
 use crate::{nesting, twins, whole};
 use std::collections::{BTreeMap, BTreeSet};
 
@@ -62,7 +63,7 @@ impl Survey {
                 return self.count_refusal(&refusal);
             }
         };
-        if listing::write(&listing).as_bytes() != bytes {
+        if listing::write(&listing) != bytes {
             self.faults.push(format!("listing {number} is not written as it was read"));
         }
         self.most_instructions = self.most_instructions.max(listing.ops().count());
@@ -207,8 +208,18 @@ pub fn count(counts: &mut BTreeMap<String, u64>, key: &str) {
 }
 
 /// The tables, each by what its lines begin with; the parameters stand in one line.
-const TABLES: [&str; 10] =
-    ["(slot ", "(shared ", "(private ", "(enum ", "(native ", "(sig ", "parameters", "(chunk ", "(const ", "(op "];
+const TABLES: [&str; 10] = [
+    Table::Slot.begin(),
+    Table::Shared.begin(),
+    Table::Private.begin(),
+    Table::Enum.begin(),
+    Table::Native.begin(),
+    Table::Sig.begin(),
+    "parameters",
+    Table::Chunk.begin(),
+    Table::Const.begin(),
+    Table::Op.begin(),
+];
 
 /// Those that have all the lines that there is room for.
 fn full_tables(listing: &Listing) -> impl Iterator<Item = &'static str> {
@@ -229,11 +240,11 @@ fn full_tables(listing: &Listing) -> impl Iterator<Item = &'static str> {
 }
 
 fn full(table: &str) -> String {
-    format!("full: {}", table.trim_matches(['(', ' ']))
+    format!("full: {}", table.trim_start_matches('('))
 }
 
 fn overfull(table: &str) -> String {
-    format!("one too many: {}", table.trim_matches(['(', ' ']))
+    format!("one too many: {}", table.trim_start_matches('('))
 }
 
 /// Whether an opener, an Else or a break names an instruction that is not after it.
@@ -281,8 +292,7 @@ pub fn answers_compared(size: Size) -> Vec<String> {
 
 /// The name of an op; where it has variants, that too, and the kind that it names.
 fn form_of(op: &Op) -> String {
-    let mut line = String::new();
-    op.write(&mut line);
+    let line = op.text();
     let words: Vec<&str> = line.split(' ').collect();
     let kind = match op {
         Op::NewComposite(NewCompositeOperand::Flat { kind, .. } | NewCompositeOperand::Boxed { kind, .. }) => {
