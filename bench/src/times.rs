@@ -1,8 +1,8 @@
-//! Times of the proved checker and of the original on the same listings.
+//! Times of the proved checker and of the original on the same listings; and of reading and writing alone, in both.
 
 use classes::Class;
 use oracle::answer;
-use oracle::listing::{self, Listing, MAX_OPS};
+use oracle::listing::{self, Listing, MAX_BYTES, MAX_OPS};
 use oracle::verify_typed::typed_check_module;
 use std::hint::black_box;
 
@@ -19,30 +19,49 @@ const LEAST_ROUND: u64 = 8_000_000;
 
 // ── What is measured ─────────────────────────────────────────────────────────────────────
 
-/// A call of the static library with both sheets of the greatest length, and with lent tables or without.
+type Tables = Box<[u64; stagecheck::TABLE_WORDS]>;
+type Answer = [u64; stagecheck::ANSWER_WORDS];
+
+/// Calls of the static library with both sheets of the greatest length, and with lent tables or without; and with a buffer for
+/// the longest listing.
 struct Ours {
-    tables: Box<[u64; stagecheck::TABLE_WORDS]>,
+    tables: Tables,
     heights: Vec<u8>,
     blinds: Vec<u8>,
+    buffer: Vec<u8>,
 }
 
 impl Ours {
     fn new() -> Ours {
         let tables = vec![0; stagecheck::TABLE_WORDS].into_boxed_slice().try_into().expect("it has so many words");
-        Ours { tables, heights: vec![0; MAX_OPS], blinds: vec![0; MAX_OPS] }
+        Ours { tables, heights: vec![0; MAX_OPS], blinds: vec![0; MAX_OPS], buffer: vec![0; MAX_BYTES] }
     }
 
     /// With the tables lent, as the call before left them.
-    fn check(&mut self, bytes: &[u8]) -> [u64; stagecheck::ANSWER_WORDS] {
+    fn check(&mut self, bytes: &[u8]) -> Answer {
         let mut answer = [0; stagecheck::ANSWER_WORDS];
         stagecheck::check_in(black_box(bytes), &mut self.tables, &mut self.heights, &mut self.blinds, &mut answer);
         answer
     }
 
     /// With tables of the call's own, on its stack.
-    fn check_alone(&mut self, bytes: &[u8]) -> [u64; stagecheck::ANSWER_WORDS] {
+    fn check_alone(&mut self, bytes: &[u8]) -> Answer {
         let mut answer = [0; stagecheck::ANSWER_WORDS];
         stagecheck::check(black_box(bytes), &mut self.heights, &mut self.blinds, &mut answer);
+        answer
+    }
+
+    /// Reads into the tables, as the call before left them.
+    fn read(&mut self, bytes: &[u8]) -> Answer {
+        let mut answer = [0; stagecheck::ANSWER_WORDS];
+        stagecheck::read(black_box(bytes), &mut self.tables, &mut answer);
+        answer
+    }
+
+    /// Writes tables that were read before.
+    fn write(&mut self, tables: &Tables) -> Answer {
+        let mut answer = [0; stagecheck::ANSWER_WORDS];
+        stagecheck::write(black_box(tables), &mut self.buffer, &mut answer);
         answer
     }
 }
@@ -55,6 +74,18 @@ fn rust_check(listing: &Listing) -> bool {
 /// The oracle's reader, then the original. What was read is freed.
 fn rust_with_reader(bytes: &[u8]) -> bool {
     listing::read(black_box(bytes)).is_ok_and(|listing| rust_check(&listing))
+}
+
+/// The oracle's reader alone. What was read is freed.
+fn rust_read(bytes: &[u8]) -> bool {
+    listing::read(black_box(bytes)).is_ok()
+}
+
+/// The oracle's writer, into a buffer that has room. It is given a module that was read before.
+fn rust_write(listing: &Listing, out: &mut Vec<u8>) -> usize {
+    out.clear();
+    listing::write_to(black_box(listing), out);
+    out.len()
 }
 
 /// The same bytes with a last line that cannot follow: reading goes as far, and nothing comes after it.
@@ -165,35 +196,53 @@ impl Times {
     }
 }
 
-/// Measures a class. In each round all measurements take their turn.
-fn measure(class: &Prepared, count: usize) -> Times {
-    let (mut for_reading, mut for_check, mut alone) = (Ours::new(), Ours::new(), Ours::new());
-    let mut all: [Measured; 5] = [
-        over(&class.damaged, |bytes| for_reading.check(bytes)),
-        over(&class.bytes, |bytes| for_check.check(bytes)),
-        over(&class.bytes, |bytes| alone.check_alone(bytes)),
-        over(&class.read, rust_check),
-        over(&class.bytes, |bytes| rust_with_reader(bytes)),
-    ];
-    let is_measured = [!class.damaged.is_empty(), true, true, !class.read.is_empty(), true];
-    let mut rounds: [Vec<f64>; 5] = Default::default();
-    let repeated: Vec<u64> = (0..5).map(|at| if is_measured[at] { repeats(&mut all[at]) } else { 0 }).collect();
+/// What measurements of so many listings take, in their order.
+struct Least {
+    /// Microseconds for each listing, none where there is nothing to measure.
+    times: Vec<Option<f64>>,
+    /// The greatest of the medians' excess over the least, of all.
+    spread: f64,
+}
+
+/// Measures in so many rounds, in each of which all measurements take their turn.
+fn least(mut all: Vec<Option<Measured>>, listings: usize, count: usize) -> Least {
+    let repeated: Vec<u64> = all.iter_mut().map(|measured| measured.as_mut().map_or(0, repeats)).collect();
+    let mut rounds = vec![Vec::new(); all.len()];
     for _ in 0..count {
-        for at in (0..5).filter(|at| is_measured[*at]) {
-            let calls = repeated[at] * class.bytes.len() as u64;
-            rounds[at].push(nanoseconds(&mut all[at], repeated[at]) as f64 / calls as f64 / 1_000.0);
+        for ((measured, repeats), times) in all.iter_mut().zip(&repeated).zip(&mut rounds) {
+            let Some(measured) = measured else { continue };
+            let calls = repeats * listings as u64;
+            times.push(nanoseconds(measured, *repeats) as f64 / calls as f64 / 1_000.0);
         }
     }
-    rounds.iter_mut().for_each(|times| times.sort_by(f64::total_cmp));
-    let least = |at: usize| rounds[at].first().copied();
+    rounds.iter_mut().for_each(|times: &mut Vec<f64>| times.sort_by(f64::total_cmp));
     let excess = rounds.iter().filter(|times| !times.is_empty()).map(|times| times[count / 2] / times[0] - 1.0);
+    let spread = excess.fold(0.0, f64::max);
+    Least { times: rounds.iter().map(|times| times.first().copied()).collect(), spread }
+}
+
+/// Measures a class.
+fn measure(class: &Prepared, count: usize) -> Times {
+    let (mut for_reading, mut for_check, mut alone) = (Ours::new(), Ours::new(), Ours::new());
+    let is_read = !class.read.is_empty();
+    let Least { times, spread } = least(
+        vec![
+            is_read.then(|| over(&class.damaged, |bytes| for_reading.check(bytes))),
+            Some(over(&class.bytes, |bytes| for_check.check(bytes))),
+            Some(over(&class.bytes, |bytes| alone.check_alone(bytes))),
+            is_read.then(|| over(&class.read, rust_check)),
+            Some(over(&class.bytes, |bytes| rust_with_reader(bytes))),
+        ],
+        class.bytes.len(),
+        count,
+    );
     Times {
-        our_reading: least(0),
-        our_check: least(1).expect("it is measured"),
-        check_alone: least(2).expect("it is measured"),
-        rust_check: least(3),
-        rust_with_reader: least(4).expect("it is measured"),
-        spread: excess.fold(0.0, f64::max),
+        our_reading: times[0],
+        our_check: times[1].expect("it is measured"),
+        check_alone: times[2].expect("it is measured"),
+        rust_check: times[3],
+        rust_with_reader: times[4].expect("it is measured"),
+        spread,
     }
 }
 
@@ -254,6 +303,59 @@ fn head() {
     println!("|---|---:|---:|---:|---:|---:|---:|---:|---:|---:|---:|---:|---:|");
 }
 
+/// A row of the second table: reading and writing alone. What each listing is read into is written as the listing.
+fn writing_row(name: &str, listings: &[Vec<u8>]) {
+    let mut ours = Ours::new();
+    let mut tables: Vec<Tables> = Vec::new();
+    let mut read: Vec<Listing> = Vec::new();
+    for bytes in listings {
+        assert_eq!(ours.read(bytes)[0], 0, "it reads");
+        tables.push(ours.tables.clone());
+        let written = ours.write(&ours.tables.clone());
+        assert_eq!((written[0], &ours.buffer[..written[1] as usize]), (0, &bytes[..]), "it is written back");
+        read.push(listing::read(bytes).expect("it reads"));
+        assert_eq!(listing::write(&read[read.len() - 1]), *bytes, "it is written back");
+    }
+    let (mut for_reading, mut for_writing, mut buffer) = (Ours::new(), Ours::new(), Vec::with_capacity(MAX_BYTES));
+    let all = vec![
+        Some(over(listings, |bytes| for_reading.read(bytes))),
+        Some(over(listings, |bytes| rust_read(bytes))),
+        Some(over(&tables, |tables| for_writing.write(tables))),
+        Some(over(&read, |listing| rust_write(listing, &mut buffer))),
+    ];
+    let Least { times, spread } = least(all, listings.len(), ROUNDS);
+    let times: Vec<f64> = times.into_iter().map(|time| time.expect("it is measured")).collect();
+    println!(
+        "| {name:<24} | {:>8} | {:>6} | {:>11.2} | {:>12.2} | {:>6.2} | {:>11.2} | {:>12.2} | {:>6.2} | {:>5.0}% |",
+        listings.len(),
+        median(listings.iter().map(Vec::len).collect()),
+        times[0],
+        times[1],
+        times[0] / times[1],
+        times[2],
+        times[3],
+        times[2] / times[3],
+        spread * 100.0,
+    );
+}
+
+fn writing_head() {
+    println!(
+        "| {:<24} | {:>8} | {:>6} | {:>11} | {:>12} | {:>6} | {:>11} | {:>12} | {:>6} | {:>6} |",
+        "class",
+        "listings",
+        "bytes",
+        "our reading",
+        "Rust reading",
+        "ratio",
+        "our writing",
+        "Rust writing",
+        "ratio",
+        "spread"
+    );
+    println!("|---|---:|---:|---:|---:|---:|---:|---:|---:|---:|");
+}
+
 /// Rows of growing listings, then how the times grow from one to the next.
 fn growth(title: &str, rounds: usize, listings: Vec<(String, Vec<u8>)>) {
     println!("\n{title}\n");
@@ -268,15 +370,24 @@ fn growth(title: &str, rounds: usize, listings: Vec<(String, Vec<u8>)>) {
 }
 
 fn main() {
+    let classes = classes::classes();
     println!("Microseconds of processor time for each listing, the least of {ROUNDS} rounds.\n");
     head();
-    for Class { name, listings } in classes::classes() {
-        row(name, listings, ROUNDS);
+    for Class { name, listings } in &classes {
+        row(name, listings.clone(), ROUNDS);
     }
     let straight = |size| (format!("straight line of {size}"), classes::straight_line(size));
     let lines = [256, 512, 1_024, 2_048, MAX_OPS].map(straight).to_vec();
-    growth("Straight lines, without loops:", ROUNDS, lines);
+    growth("Straight lines, without loops:", ROUNDS, lines.clone());
     let nest = |locals| (format!("8 loops, {locals} of each widen"), classes::eight_loops_that_widen(locals));
     let nests = [1, 2, 3, 4].map(nest).to_vec();
     growth(&format!("Eight nested loops with locals that widen, least of {FEW_ROUNDS} rounds:"), FEW_ROUNDS, nests);
+    println!("\nReading into tables, and writing back, of what reads:\n");
+    writing_head();
+    for Class { name, listings } in classes.iter().filter(|class| rust_read(&class.listings[0])) {
+        writing_row(name, listings);
+    }
+    for (name, bytes) in lines {
+        writing_row(&name, &[bytes]);
+    }
 }
