@@ -5,6 +5,7 @@ use oracle::answer;
 use oracle::listing::{self, Listing, MAX_BYTES, MAX_OPS};
 use oracle::verify_typed::typed_check_module;
 use std::hint::black_box;
+use std::process::ExitCode;
 
 mod classes;
 #[path = "../../oracle/src/stagecheck.rs"]
@@ -369,25 +370,44 @@ fn growth(title: &str, rounds: usize, listings: Vec<(String, Vec<u8>)>) {
     }
 }
 
-fn main() {
-    let classes = classes::classes();
-    println!("Microseconds of processor time for each listing, the least of {ROUNDS} rounds.\n");
+/// The tables of checks: the classes, and growing listings.
+fn print_checks(classes: &[Class], lines: &[(String, Vec<u8>)]) {
     head();
-    for Class { name, listings } in &classes {
+    for Class { name, listings } in classes {
         row(name, listings.clone(), ROUNDS);
     }
-    let straight = |size| (format!("straight line of {size}"), classes::straight_line(size));
-    let lines = [256, 512, 1_024, 2_048, MAX_OPS].map(straight).to_vec();
-    growth("Straight lines, without loops:", ROUNDS, lines.clone());
+    growth("Straight lines, without loops:", ROUNDS, lines.to_vec());
     let nest = |locals| (format!("8 loops, {locals} of each widen"), classes::eight_loops_that_widen(locals));
     let nests = [1, 2, 3, 4].map(nest).to_vec();
     growth(&format!("Eight nested loops with locals that widen, least of {FEW_ROUNDS} rounds:"), FEW_ROUNDS, nests);
+}
+
+/// The table of reading and writing alone: the classes that read, and growing listings.
+fn print_writing(classes: &[Class], lines: &[(String, Vec<u8>)]) {
     println!("\nReading into tables, and writing back, of what reads:\n");
     writing_head();
     for Class { name, listings } in classes.iter().filter(|class| rust_read(&class.listings[0])) {
         writing_row(name, listings);
     }
     for (name, bytes) in lines {
-        writing_row(&name, &[bytes]);
+        writing_row(name, std::slice::from_ref(bytes));
     }
+}
+
+fn main() -> ExitCode {
+    let arguments: Vec<String> = std::env::args().skip(1).collect();
+    let only_writing = arguments == ["writing"];
+    if !arguments.is_empty() && !only_writing {
+        eprintln!("usage: times [writing]");
+        return ExitCode::FAILURE;
+    }
+    let classes = classes::classes();
+    let straight = |size| (format!("straight line of {size}"), classes::straight_line(size));
+    let lines = [256, 512, 1_024, 2_048, MAX_OPS].map(straight);
+    println!("Microseconds of processor time for each listing, the least of {ROUNDS} rounds.\n");
+    if !only_writing {
+        print_checks(&classes, &lines);
+    }
+    print_writing(&classes, &lines);
+    ExitCode::SUCCESS
 }
