@@ -143,8 +143,8 @@ static void expect_no_listing(const char *what)
     }
 }
 
-/* Tables that no listing gives: of one byte throughout, and with equal trap codes. The word of the second trap code is
- * the one in which two listings differ. */
+/* Tables that no listing gives: of one byte throughout, with equal trap codes, and after a listing that does not read.
+ * The word of the second trap code is the one in which two listings differ. */
 static void check_no_listing(void)
 {
     static uint64_t other[STAGECHECK_TABLE_WORDS];
@@ -162,6 +162,10 @@ static void check_no_listing(void)
     expect("the word of the second trap code", tables[at] == 7 && other[at] == 9);
     tables[at] = 8;
     expect_no_listing("equal trap codes");
+    read_string("(module 8 8 6 0 0 8 9\n");
+    expect_no_listing("a listing whose end is missing");
+    read_string("(module 8 8 6 0 0 8 9\n(chunk 33\n");
+    expect_no_listing("a listing over a limit");
 }
 
 /* What does not read is refused as a check refuses it; what a check refuses later is read. */
@@ -175,6 +179,7 @@ static void check_read(void)
     memset(answer, 0xEE, sizeof answer);
     expect("too many bytes", words_are(stagecheck_read(zeros, sizeof zeros, tables, answer), 4,
                                        STAGECHECK_LIMIT_PASSED, 0, 0, 1));
+    expect_no_listing("a listing of too many bytes");
     expect("a shared slot without its line",
            words_are(read_string("(module 8 8 6 0 0 8 9\n(slot shared)\n)\n"), 3, STAGECHECK_ACCEPTED, 0, 0, 0));
 }

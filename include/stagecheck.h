@@ -186,10 +186,10 @@ size_t stagecheck_check_in(const uint8_t *listing, size_t listing_length,
  *
  * listing, length            the listing's bytes, any; only read.
  * tables                     room for STAGECHECK_TABLE_WORDS words. Whatever they hold is of no account. Where the
- *                            listing is read they hold its module afterwards; after a refusal what they hold is not
- *                            promised. The words may be kept, copied and handed on, to another process too. What each
- *                            of them says may change with the version of the library: keep words only as long as one
- *                            version reads and writes them, and listings for longer.
+ *                            listing is read they hold its module afterwards; after a refusal they hold none, so that
+ *                            stagecheck_write refuses them with 1. The words may be kept, copied and handed on, to
+ *                            another process too. What each of them says may change with the version of the library:
+ *                            keep words only as long as one version reads and writes them, and listings for longer.
  * answer                     as for a check: STAGECHECK_ACCEPTED, chunks and instructions; or 1, or 2 with one of the
  *                            limits 1 to 3, exactly as a check of the same listing refuses it.
  *
@@ -233,8 +233,9 @@ size_t stagecheck_text(const uint8_t *listing, size_t listing_length,
 
 /* Says an answer in words. For a refusal: the line of the listing that is at fault, where there is one, the refusal's
  * name and a sentence with its values. For an acceptance: the lines of the listing, with height and mark beside each
- * instruction. It does not check: it is lent the listing, and the sheets and the answer that a call above left for it.
- * With others it is as safe, and what it says is of no account.
+ * instruction. It does not check: it is lent the listing, and the sheets and the answer that a check left for it, or a
+ * refusal of stagecheck_read. With others, and so with an answer of stagecheck_write, it is as safe, and what it says is
+ * of no account.
  *
  * text, text_length          room for the explanation, of any length. As much is written as has room; the explanation
  *                            does not end in a zero byte.

@@ -99,7 +99,7 @@ fn faults_of_writing(
     faults.into_iter().chain(buffer.fault(written.map_or(b"", |text| text.as_bytes()))).collect()
 }
 
-/// Reads a listing into tables: how the call differs from what is expected. After a refusal the tables may hold anything.
+/// Reads a listing into tables: how the call differs from what is expected. After a refusal the tables hold no module.
 fn faults_of_reading(calls: Calls, bytes: &[u8], words: &mut Words) -> Vec<String> {
     let mut answer = NO_ANSWER;
     let count = (calls.read)(bytes, words, &mut answer);
@@ -107,6 +107,8 @@ fn faults_of_reading(calls: Calls, bytes: &[u8], words: &mut Words) -> Vec<Strin
     let mut faults: Vec<String> = answer_fault(&answer, count, &expected).into_iter().collect();
     if expected[0] == 0 {
         faults.extend(fault_in_use(&words::in_use(text(bytes)), words));
+    } else if words::written(words).is_ok() {
+        faults.push("leaves a module of a listing that does not read".to_string());
     }
     faults
 }
@@ -276,7 +278,7 @@ impl<'a> Rewriting<'a> {
         self.add_tables_in(&rooms, said, source, random);
     }
 
-    /// Reads a listing and, where it reads, writes it back.
+    /// Reads a listing and writes back what is then in the tables.
     fn add_listing(&mut self, source: Source, random: &mut Random) {
         let faults = faults_of_reading(self.calls, source.listing, &mut self.tables);
         if !faults.is_empty() {
@@ -286,7 +288,7 @@ impl<'a> Rewriting<'a> {
             Ok(_) => self.add_tables(source, random),
             Err(refusal) => {
                 self.count(source.kind, format!("reading: {}", refusal.kind()));
-                self.tally(source.kind, true);
+                self.add_tables(source, random);
             }
         }
     }

@@ -272,17 +272,6 @@ pub enum Cause {
 
 impl Cause {
     pub fn all() -> Vec<Cause> {
-        let numbered = [
-            Table::Module,
-            Table::Shared,
-            Table::Private,
-            Table::Enum,
-            Table::Native,
-            Table::Sig,
-            Table::Chunk,
-            Table::Const,
-            Table::Op,
-        ];
         let alone = [
             Cause::HeaderRows,
             Cause::Slot,
@@ -299,7 +288,9 @@ impl Cause {
             Cause::Bytes,
         ];
         let rows = Table::ALL[1..].iter().map(|table| Cause::Rows(*table));
-        alone.into_iter().chain(rows).chain(numbered.map(Cause::Number)).collect()
+        // A slot's line has no number.
+        let numbers = Table::ALL.into_iter().filter(|table| !matches!(table, Table::Slot)).map(Cause::Number);
+        alone.into_iter().chain(rows).chain(numbers).collect()
     }
 
     /// Why the reader refuses the lines that the words say.

@@ -64,7 +64,7 @@ impl Tables {
     ///
     /// # Errors
     ///
-    /// The refusal, where the listing cannot be read. What the tables hold then is not promised.
+    /// The refusal, where the listing cannot be read. The tables then hold no module, and writing them is refused.
     pub fn read(&mut self, listing: &[u8]) -> Result<Counts, Refusal> {
         let [_, chunks, instructions, ..] = Refusal::unless_zero(sys::read(listing, &mut self.words))?;
         Ok(Counts { chunks, instructions })
@@ -86,8 +86,8 @@ impl Tables {
     ///
     /// # Errors
     ///
-    /// [`Refusal::CannotFollow`] with 0 lines, where no listing gives what the tables hold, which those never do that
-    /// have read a listing; else [`Refusal::BufferTooShort`]. After both the whole buffer is as it was.
+    /// [`Refusal::CannotFollow`] with 0 lines, where no listing gives what the tables hold, which is never so of
+    /// those that have read a listing; else [`Refusal::BufferTooShort`]. After both the whole buffer is as it was.
     pub fn write(&self, out: &mut [u8]) -> Result<usize, Refusal> {
         let [_, length, ..] = Refusal::unless_zero(sys::write(&self.words, out))?;
         // No more than the buffer has.

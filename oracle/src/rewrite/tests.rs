@@ -12,6 +12,8 @@ fn right_read(bytes: &[u8], words: &mut Words, answer: &mut AnswerWords) -> usiz
     let expected = answer_of_reading(bytes);
     if expected[0] == 0 {
         words::put(text(bytes), words);
+    } else {
+        words[Table::Module.count()] = 0;
     }
     give(&expected, answer)
 }
@@ -62,6 +64,8 @@ fn are_found(calls: Calls) -> bool {
 fn read_as(bytes: &[u8], taken_for: &[u8], words: &mut Words, answer: &mut AnswerWords) -> usize {
     if listing::read(taken_for).is_ok() {
         words::put(text(taken_for), words);
+    } else {
+        words[Table::Module.count()] = 0;
     }
     give(&answer_of_reading(bytes), answer)
 }
@@ -79,7 +83,7 @@ fn text_or_nothing(bytes: &[u8]) -> &str {
 
 #[test]
 fn wrong_reading_is_found() {
-    let wrong: [(&str, Read); 8] = [
+    let wrong: [(&str, Read); 9] = [
         ("tables that are left", |bytes, _, answer| give(&answer_of_reading(bytes), answer)),
         ("EndLoop's operand", |bytes, words, answer| {
             read_as(bytes, &without(bytes, "(op EndLoop", "0"), words, answer)
@@ -104,6 +108,14 @@ fn wrong_reading_is_found() {
         ("limit 3 for 2", |bytes, words, answer| {
             let count = right_read(bytes, words, answer);
             if answer[..4] == [2, 0, 0, 3] { give(&[2, 0, 0, 2], answer) } else { count }
+        }),
+        ("a module of a listing that does not read", |bytes, words, answer| {
+            let rows = words[Table::Module.count()];
+            let count = right_read(bytes, words, answer);
+            if answer[0] > 0 {
+                words[Table::Module.count()] = rows;
+            }
+            count
         }),
         ("a line too many", |bytes, words, answer| {
             let count = right_read(bytes, words, answer);
