@@ -506,6 +506,11 @@ fn counts_fit(t: &[u64]) -> bool
     true
 }
 
+// The words of the header's row that are its trap codes.
+const INDEX_TRAP: usize = 6;
+
+const HOST_TRAP: usize = 7;
+
 // Whether there is one header, whose traps differ.
 fn is_headed(t: &[u64]) -> bool
     ensures { λ r. ⌜ r ≡ is-headed (now (t .entry)) ⌝ }
@@ -513,7 +518,8 @@ fn is_headed(t: &[u64]) -> bool
     if bytecode::word(t, bytecode::HEADER) != 1 {
         return false;
     }
-    bytecode::cell(t, bytecode::HEADER, 0, 6) != bytecode::cell(t, bytecode::HEADER, 0, 7)
+    bytecode::cell(t, bytecode::HEADER, 0, INDEX_TRAP)
+        != bytecode::cell(t, bytecode::HEADER, 0, HOST_TRAP)
 }
 
 // The module that the tables say, from the buffer's start on.
