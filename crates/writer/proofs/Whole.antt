@@ -13,6 +13,7 @@ use Rattle.definition.specs.Format.{Bytes}
 use Rattle.definition.specs.Module.{Module}
 use Rattle.definition.specs.Read.{read}
 use Rattle.definition.specs.Write.{Written, listing-of, is-given, write, put, put-result}
+use Rattle.theorems.specs.Cover.{no-ok, ok-inj}
 use Rattle.theorems.specs.Direct.{module-passes, given-direct}
 use Rattle.theorems.specs.Relisted.{read-written, written-read}
 use Rattle.bytecode.specs.Meaning.{moduleOf}
@@ -126,31 +127,25 @@ back t before a after e bs r x l =
 
 -- ── Written, then read ────────────────────────────────────────────────────────────────────
 
-ok-same : {x y : ℕ} → ok x ≡ ok y → x ≡ y
-ok-same e = cc
-
-no-refusal : {A : Type 0} {r : List ℕ} {x : A} → refused r ≡ ok x → ⊥
-no-refusal e = let z : _≡_ {A = ℕ} 0 1 = cc in omega arith
-
 take-first : (bs rest : Bytes) → take (length bs) (bs ++ rest) ≡ bs
 take-first [] rest = refl
 take-first (b ∷ bs) rest = ap (λ (l : Bytes). b ∷ l) (take-first bs rest)
 
 put-first : (b : Bool) (bs before : Bytes) (n : ℕ) → put b bs before .answer ≡ ok n → take n (put b bs before .buffer) ≡ bs
 unfolding put
-put-first true bs before n f = ap (λ (m : ℕ). take m (bs ++ drop (length bs) before)) (sym (ok-same f)) ∙ take-first bs (drop (length bs) before)
-put-first false bs before n f = absurd (no-refusal f)
+put-first true bs before n f = ap (λ (m : ℕ). take m (bs ++ drop (length bs) before)) (sym (ok-inj f)) ∙ take-first bs (drop (length bs) before)
+put-first false bs before n f = absurd (no-ok f)
 
 -- the bytes that a text leaves in a buffer, by the length that is answered
 first-of : (r : Result Bytes) (before : Bytes) (n : ℕ) → put-result r before .answer ≡ ok n → (bs : Bytes) × (r ≡ ok bs) × (take n (put-result r before .buffer) ≡ bs)
 unfolding put-result
-first-of (refused r) before n e = absurd (no-refusal e)
+first-of (refused r) before n e = absurd (no-ok e)
 first-of (ok bs) before n e = (bs, refl, put-first (leb (length bs) (length before)) bs before n e)
 
 text-read : (b : Bool) (m : Module) (bs : Bytes) → text-of b m ≡ ok bs → read bs ≡ ok m
 unfolding text-of
 text-read true m bs e = written-read m bs e
-text-read false m bs e = absurd (no-refusal e)
+text-read false m bs e = absurd (no-ok e)
 
 pub again : (t : List ℕ) (before : Bytes) (a : Answered) (after : Bytes) → written-of a after ≡ write-tables t before → Read-again t a after
 unfolding written-of write-tables

@@ -258,7 +258,7 @@ fn put_line(forms: &[u8; 176], t: &[u64], k: usize, i: usize, out: &mut [u8], at
     put_byte(out, next, b'\n')
 }
 
-// The closing line. It has no words: no part of the tables is lent.
+// The closing line. It has no words: the tables are there for an empty part of them.
 fn put_close(forms: &[u8; 176], t: &[u64], out: &mut [u8], at: usize) -> usize
     requires { ⌜ (at ≤ past) × (now forms ≡ formats) ⌝ }
     ensures { λ r. ⌜ Put (now (out .entry)) at close-said (now (out .exit)) r ⌝ }
