@@ -1,4 +1,6 @@
 // The answer of a call: of the check acceptance, of the writer the length written, of both a refusal with its values.
+#![tactic(auto)]
+
 ghost use Rattle.std.specs.Prelude.{◌≡◌, ◌∷◌, []};
 ghost use Rattle.answer.specs.Answer.{numbers, refusal, is_none, answer_of, written_of};
 ghost use Rattle.answer.specs.Numbers.{values_of, values_of_written, row_of};
@@ -8,7 +10,7 @@ pub mod reason;
 
 // A fault, made where it is found: in the order of the numbers of 01, 1 to 19, with the Rust's fields, and of 02, from 20 on. The chunk stands
 // beside it.
-#[derive(Drop)]
+#[derive(Clone, Copy)]
 pub enum Refusal {
     // 1: lines before the one that cannot follow
     CannotFollow(u64),
@@ -53,7 +55,7 @@ pub enum Refusal {
 }
 
 // Of an instruction, or of a stretch of one chunk.
-#[derive(Drop)]
+#[derive(Clone, Copy)]
 pub enum Verdict {
     Passed,
     Refused(Refusal),
@@ -71,28 +73,28 @@ impl Verdict {
 }
 
 // Of a test of the module: the chunk, 0 where there is none, and the refusal.
-#[derive(Drop)]
+#[derive(Clone, Copy)]
 pub enum Finding {
     Nothing,
     Refused(u64, Refusal),
 }
 
 // Acceptance with the number of chunks and of all instructions, or one refusal with its chunk.
-#[derive(Drop)]
+#[derive(Clone, Copy)]
 pub enum Answer {
     Accepted(u64, u64),
     Refused(u64, Refusal),
 }
 
 // Of a call that writes a listing: the length written, or one refusal, of no chunk.
-#[derive(Drop)]
+#[derive(Clone, Copy)]
 pub enum Written {
     Length(u64),
     Refused(Refusal),
 }
 
 // An answer's numbers: as many as count says, and zeros after them.
-#[derive(Drop)]
+#[derive(Clone, Copy)]
 pub struct Numbers {
     pub count: usize,
     pub words: [u64; 8],

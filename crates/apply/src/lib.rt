@@ -1,4 +1,6 @@
 // The examination of one instruction: its tests in the Rust's order, the state after it, and whether a flat access met an unknown operand.
+#![tactic(auto)]
+
 ghost use Rattle.std.specs.Prelude.{◌≡◌, false, not, List, reverse, ℕ, ◌+◌, ◌-◌, ◌≤◌, ◌<◌, length, take, get_or};
 ghost use Rattle.std.proofs.Math.Option.{none};
 ghost use Rattle.definition.specs.Basics.{first};
@@ -149,7 +151,7 @@ fn call(
 // ---- the state after
 
 // blind: whether a flat access met an unknown operand. The height after, and with it the state, counts only where the verdict is Passed.
-#[derive(Drop)]
+#[derive(Clone, Copy)]
 pub struct Step {
     pub verdict: Verdict,
     pub blind: bool,

@@ -1,5 +1,7 @@
 // What the walk does at one instruction that does not lead straight onward, and where paths meet: breaks, joins, leaving a loop, forgetting. The states are in arrays that
 // the caller lends.
+#![tactic(auto)]
+
 ghost use Rattle.std.specs.Prelude.{◌≡◌, false, ◌≢◌, List, [], ◌∷◌, ℕ, suc, ◌+◌, ◌-◌, ◌≤◌, ◌<◌, length, set, replicate};
 ghost use Rattle.std.proofs.Math.Option.{some};
 ghost use Rattle.definition.specs.Basics.{refused};
@@ -21,7 +23,7 @@ use bytecode::code;
 use rules::Ctx;
 
 // How a stretch was walked: refused, no path comes to its end, or it falls through.
-#[derive(Drop)]
+#[derive(Clone, Copy)]
 pub enum Flow {
     Refused(Verdict),
     Ended,
@@ -29,7 +31,7 @@ pub enum Flow {
 }
 
 // The breaks of a loop so far: none, one joined state, or the first unequal pair of heights.
-#[derive(Drop)]
+#[derive(Clone, Copy)]
 pub enum Pending {
     Nothing,
     Joined,
@@ -37,14 +39,14 @@ pub enum Pending {
 }
 
 // The height is that of the joined state, and counts only where there is one. The state is in arrays of its own.
-#[derive(Drop)]
+#[derive(Clone, Copy)]
 pub struct Breaks {
     pub pending: Pending,
     pub height: usize,
 }
 
 // The height is that of the state at the end, and counts only where the stretch falls through.
-#[derive(Drop)]
+#[derive(Clone, Copy)]
 pub struct Outcome {
     pub flow: Flow,
     pub height: usize,
@@ -52,27 +54,27 @@ pub struct Outcome {
 }
 
 // What comes after an instruction with its blocks: where it falls through, the walk goes on at `next`.
-#[derive(Drop)]
+#[derive(Clone, Copy)]
 pub struct Onward {
     pub next: usize,
     pub out: Outcome,
 }
 
-#[derive(Drop)]
+#[derive(Clone, Copy)]
 pub enum Leaving {
     Stopped(Verdict),
     After,
 }
 
 // What the passes over a loop leave, and the height of the state after it.
-#[derive(Drop)]
+#[derive(Clone, Copy)]
 pub struct Left {
     pub leaving: Leaving,
     pub height: usize,
 }
 
 // The form of an If: one arm, or two and the place of its EndIf.
-#[derive(Drop)]
+#[derive(Clone, Copy)]
 pub enum Layout {
     OneArm,
     TwoArms(usize),

@@ -1,4 +1,6 @@
 // The tables of a module, in one lent slice of words: word k counts the rows of table k, whose rows stand from base_of(k) on.
+#![tactic(auto)]
+
 ghost use Rattle.std.specs.Prelude.{◌≡◌, ◌+◌, ◌*◌, ◌-◌, ◌%◌, ◌<◌, ◌≤◌, min, map, length, get_or, pos, ◌-ℤ◌};
 ghost use Rattle.std.proofs.Math.ListN.{get_elem?};
 ghost use Rattle.definition.specs.Format.{bits};
@@ -215,7 +217,7 @@ pub fn count(t: &[u64], k: usize) -> usize
     limited64(word(t, k), cap_of(k))
 }
 
-#[derive(Drop)]
+#[derive(Clone, Copy)]
 pub struct Header {
     pub word: u8,
     pub float: u8,
@@ -277,7 +279,7 @@ pub fn slot_shared(t: &[u64], i: usize) -> bool
     cell(t, SLOTS, i, 0) == 0
 }
 
-#[derive(Drop)]
+#[derive(Clone, Copy)]
 pub struct SharedEntry {
     pub offset: u32,
     pub kind: u8,
@@ -298,7 +300,7 @@ pub fn shared_at(t: &[u64], i: usize) -> SharedEntry
     }
 }
 
-#[derive(Drop)]
+#[derive(Clone, Copy)]
 pub struct PrivateEntry {
     pub slot: u16,
     pub offset: u32,
@@ -325,7 +327,7 @@ pub fn enum_min(t: &[u64], i: usize) -> u32
 }
 
 // A declared shape as the walk takes it: a tag that is not known gives unknown.
-#[derive(Drop)]
+#[derive(Clone, Copy)]
 pub enum WireShape {
     Unknown,
     Scalar(u8),
@@ -445,7 +447,7 @@ pub fn locals(t: &[u64], k: usize) -> usize
 }
 
 // A stretch of a table: its first row, and how many rows.
-#[derive(Drop)]
+#[derive(Clone, Copy)]
 pub struct Span {
     pub first: usize,
     pub count: usize,
@@ -512,7 +514,7 @@ pub fn instructions_of(t: &[u64], k: usize) -> Span
     span_of(t, INSTRUCTIONS, FIRST_CODE, k)
 }
 
-#[derive(Drop)]
+#[derive(Clone, Copy)]
 pub enum Constant {
     Kind(u8),
     Missing,
@@ -546,7 +548,7 @@ pub fn constant_at(t: &[u64], k: usize, j: usize) -> Constant
     Constant::Missing
 }
 
-#[derive(Drop)]
+#[derive(Clone, Copy)]
 pub struct Instr {
     pub code: u8,
     pub a: u32,
@@ -574,7 +576,7 @@ pub fn instr_at(t: &[u64], i: usize) -> Instr
 }
 
 // What an instruction needs on the operand stack, and the net change of its height.
-#[derive(Drop)]
+#[derive(Clone, Copy)]
 pub struct Effect {
     pub need: u32,
     pub net: i64,

@@ -138,7 +138,7 @@ fn pack(s: &[u8], at: usize) -> u64
 }
 
 // The word that a text of at most 24 bytes packs to.
-#[derive(Drop)]
+#[derive(Clone, Copy)]
 struct Packed {
     first: u64,
     second: u64,
@@ -163,7 +163,7 @@ fn is_name(names: &[u64; 781], row: usize, p: Packed) -> bool
     name_length(names, row) == p.length
 }
 
-#[derive(Drop)]
+#[derive(Clone, Copy)]
 pub enum Found {
     Row(usize),
     Nothing,

@@ -1,4 +1,6 @@
 // The data layout of a module, tested in the order of `validate_data_layout`.
+#![tactic(auto)]
+
 ghost use Rattle.std.specs.Prelude.{◌≡◌, length};
 ghost use Rattle.std.proofs.Math.Option.{none};
 ghost use Rattle.definition.specs.Basics.{first};
@@ -72,7 +74,7 @@ fn count_mismatch(t: &[u64]) -> Finding
 const FIRST_COMPOSITE: u8 = 128;
 
 // Bytes of a shared entry; a kind that is not known has no size.
-#[derive(Drop)]
+#[derive(Clone, Copy)]
 enum Size {
     Bytes(u32),
     Unknown,
@@ -140,7 +142,7 @@ fn shared_slots(t: &[u64]) -> Finding
 }
 
 // The private entry before, if there is one.
-#[derive(Drop)]
+#[derive(Clone, Copy)]
 enum Before {
     Nothing,
     Entry(bytecode::PrivateEntry),

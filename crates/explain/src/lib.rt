@@ -1,5 +1,7 @@
 // Words for an answer, for people. Each function takes any bytes and any words, writes as much of its text as fits, and answers the
 // length of the whole.
+#![tactic(auto)]
+
 ghost use Rattle.std.specs.Prelude.{◌≤◌};
 
 mod floats;

@@ -188,7 +188,7 @@ fn overfills(listing: &[u8], from: usize, sort: usize, counts: &[usize; 12]) -> 
 }
 
 // Which line an answer means.
-#[derive(Drop)]
+#[derive(Clone, Copy)]
 pub enum Wanted {
     Nothing,
     // the line after so many
@@ -262,7 +262,7 @@ fn here_after(here: usize, sort: usize) -> usize {
 }
 
 // A line, counted from 1, and where it begins; line 0 where there is none.
-#[derive(Drop)]
+#[derive(Clone, Copy)]
 pub struct Place {
     pub line: usize,
     pub from: usize,

@@ -1,5 +1,7 @@
 // The state of the walk: the shape of each operand and local in a word, with its text places beside it, in two arrays that the caller lends and the functions here change
 // in place.
+#![tactic(auto)]
+
 ghost use Rattle.std.specs.Prelude.{◌≡◌, true, false, List, reverse, ℕ, ◌+◌, ◌*◌, ◌-◌, ◌≤◌, ◌<◌, length, take, drop, get_or, replicate};
 ghost use Rattle.std.proofs.Math.Seq.{paste};
 ghost use Rattle.definition.specs.Shapes.{unknown, same_shape, same_shapes, join};
@@ -17,7 +19,7 @@ use shapes::{Built, Packed, Places, Shape, Value};
 use value_layout::Widths;
 
 // 64 operands, then 32 locals; sixteen places for each. What lies above the height, or past a count, means nothing.
-#[derive(Drop)]
+#[derive(Clone, Copy)]
 pub struct State {
     pub height: usize,
     pub slots: [u64; 96],
@@ -27,7 +29,7 @@ pub struct State {
 // ---- words
 
 // The shape of an operand or local, and how many of its places are known; over 16 says that they are unknown.
-#[derive(Drop)]
+#[derive(Clone, Copy)]
 pub struct Slot {
     pub shape: Shape,
     pub known: u8,

@@ -1,5 +1,7 @@
 // Joins and covers of the same two states in three ways: by value (`State::join`, `State::covers`), on lent arrays as the walk does it, and value by value. A line for each pair of
 // states says how many values the join changes, whether the first state covers the second, and whether the three ways agree.
+#![tactic(auto)]
+
 ghost use Rattle.std.specs.Prelude.{◌≡◌, ◌≤◌, ◌<◌};
 
 use frame::State;

@@ -1,4 +1,6 @@
 // Reads a listing into the tables, line by line, each by the first of the line forms that takes it whole.
+#![tactic(auto)]
+
 ghost use Rattle.std.specs.Prelude.{◌≡◌, List, ◌∷◌, [], length, take, drop, get_or, ℕ, ◌+◌, ◌*◌, ◌-◌, ◌<◌, ◌≤◌, true, false, ◌&&◌, leb, eqb};
 ghost use Rattle.std.proofs.Math.Option.{none, some};
 ghost use Rattle.definition.specs.Format.{Bytes, bytes, digits_from, is_digit, begins_digit, begins_number, number_at, numbers_at, strip, begins_with};
@@ -48,7 +50,7 @@ const FORMATS: [u8; 176] = *b"(module\x83\x88\x84\x82\x82\x81\x81\n\n\
     )\n\n\n\n\n\n\n\n\n\n\n\n\n\n\n";
 
 // A number, or a shape's word, and where it ends.
-#[derive(Drop)]
+#[derive(Clone, Copy)]
 pub enum Num {
     Read(u64, usize),
     Bad,
@@ -308,7 +310,7 @@ fn shape(s: &[u8], i: usize) -> Num
 }
 
 // The values of a line, from place 1 on, how many there are (19 for more than 18), and where they end.
-#[derive(Drop)]
+#[derive(Clone, Copy)]
 pub struct Row {
     pub ok: bool,
     pub next: usize,
@@ -424,7 +426,7 @@ fn scan(table: &[u8; 176], s: &[u8], f: usize) -> Row
 }
 
 // A line: the number of its form (form::NONE where it has none), how many values it has (19 for more than 18), and the values from place 1 on.
-#[derive(Drop)]
+#[derive(Clone, Copy)]
 pub struct Entry {
     pub form: usize,
     pub count: usize,
@@ -604,7 +606,7 @@ fn read_entry(names: &[u64; 781], s: &[u8]) -> Entry
 }
 
 // What a line does: the reader goes on at a place; or the line is refused, by its form or place, by a full table, or by LOCALS.
-#[derive(Drop)]
+#[derive(Clone, Copy)]
 pub enum Step {
     On(u64),
     Wrong,
@@ -883,7 +885,7 @@ fn line_end(s: &[u8], at: usize) -> usize
 }
 
 // What reading a listing gives: its module is in the tables; or a line cannot follow, after so many others, or the end is missing; or a limit.
-#[derive(Drop)]
+#[derive(Clone, Copy)]
 pub enum Reading {
     Module,
     Line(u64),

@@ -1,5 +1,7 @@
 // Reads the listings of standard input one after another, and prints what reading each gives. A line `= NAME` begins a listing. In a listing a line
 // `*COUNT TEXT` stands for so many lines TEXT, and a line that ends with `\` for its text without an LF; any other line stands for itself.
+#![tactic(auto)]
+
 ghost use Rattle.std.specs.Prelude.{◌≡◌, ◌+◌, ◌-◌, ◌≤◌, ◌<◌, length};
 
 use libc::STDOUT_FILENO;

@@ -1,5 +1,7 @@
 // Nesting: the rule of each instruction, checked in one pass over a chunk with a stack of the open blocks, and the limit on open blocks.
 // What is open innermost decides the rule of an instruction, so no earlier opener is searched for.
+#![tactic(auto)]
+
 ghost use Rattle.std.specs.Prelude.{◌≡◌, ◌+◌, ◌<◌, ◌≤◌, length, get_or};
 ghost use Rattle.definition.specs.Instructions.{Chunk, control};
 ghost use Rattle.definition.specs.Check.{nesting_test};
@@ -16,7 +18,7 @@ use bytecode;
 use bytecode::code;
 
 // An instruction's part in nesting. BreakIf is as Break.
-#[derive(Drop)]
+#[derive(Clone, Copy)]
 enum Part {
     Other,
     If(u16),
@@ -28,14 +30,14 @@ enum Part {
 }
 
 // The instructions of a chunk among all.
-#[derive(Drop)]
+#[derive(Clone, Copy)]
 struct Code {
     first: usize,
     size: u16,
 }
 
 // An open block: where its first arm ends, where it closes, and the target of the innermost loop that is open in it, or 0.
-#[derive(Drop)]
+#[derive(Clone, Copy)]
 struct Open {
     middle: u16,
     closer: u16,
@@ -43,7 +45,7 @@ struct Open {
 }
 
 // What an instruction does to the stack of open blocks.
-#[derive(Drop)]
+#[derive(Clone, Copy)]
 enum Step {
     Bad,
     Stay,
@@ -52,7 +54,7 @@ enum Step {
 }
 
 // Of one chunk: the first instruction that breaks a rule, or the first opener making more than eight open blocks.
-#[derive(Drop)]
+#[derive(Clone, Copy)]
 enum ChunkNesting {
     Broken(u16),
     TooDeep(u16),

@@ -1,4 +1,6 @@
 // The text that the program `stagecheck` prints, written into a lent buffer.
+#![tactic(auto)]
+
 ghost use Rattle.std.specs.Prelude.{◌≡◌, [], ◌∷◌, map, ◌+◌, ◌*◌, ◌≤◌, ◌<◌, length, get_or};
 ghost use Rattle.definition.specs.Format.{bytes, decimal};
 ghost use Rattle.definition.specs.Module.{all_ops};

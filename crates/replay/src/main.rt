@@ -1,5 +1,7 @@
 // Runs the fixed list of calls that stands on standard input: the check's answer and both sheets are compared with those of the list. What the list is, and where its
 // answers are from, is said in oracle/README.md, "The fixed list".
+#![tactic(auto)]
+
 ghost use Rattle.std.specs.Prelude.{◌≤◌, ◌<◌, length};
 ghost use Rattle.io.specs.Counts.{IsPrefixLen};
 
@@ -74,7 +76,7 @@ fn digit(b: u8) -> u64
     (b - 48) as u64
 }
 
-#[derive(Drop)]
+#[derive(Clone, Copy)]
 struct Number {
     value: u64,
     next: usize,
@@ -138,7 +140,7 @@ fn words_at(s: &[u8], at: usize, count: usize) -> [u64; 8]
 }
 
 // The first line of an entry: whether the answer is the original's, the entry's number, the bytes of the listing, the lengths of the sheets, and the answer.
-#[derive(Drop)]
+#[derive(Clone, Copy)]
 struct Head {
     of_original: bool,
     number: u64,
@@ -310,7 +312,7 @@ fn one(
 // ---- the whole list
 
 // How many were run, and how many of them were right, up to a million.
-#[derive(Drop)]
+#[derive(Clone, Copy)]
 struct Tally {
     run: u64,
     right: u64,
@@ -342,7 +344,7 @@ impl Tally {
     }
 }
 
-#[derive(Drop)]
+#[derive(Clone, Copy)]
 struct Outcome {
     counts: bool,
     of_original: bool,

@@ -1,4 +1,6 @@
 // The rule of one instruction, from the values that it looks at: its own tests in the Rust's order, what it takes and pushes, and whether a flat access met an unknown operand.
+#![tactic(auto)]
+
 ghost use Rattle.std.specs.Prelude.{◌≡◌, Bool, true, false, not, ◌&&◌, ◌||◌, List, ℕ, ◌+◌, ◌*◌, ◌-◌, ◌≤◌, ◌<◌, take, get_or, pos, ◌-ℤ◌, eqb, ltb};
 ghost use Rattle.std.proofs.Math.Option.{Option, none, some};
 ghost use Rattle.definition.specs.Basics.{pass, choose, first};
@@ -38,7 +40,7 @@ pub fn index(x: u32) -> usize
 // ---- the chunk under check
 
 // The numbers of one chunk, read once for all its instructions.
-#[derive(Drop)]
+#[derive(Clone, Copy)]
 pub struct Ctx {
     pub chunk: usize,
     pub locals: usize,
@@ -72,7 +74,7 @@ pub fn context(t: &[u64], k: usize) -> Ctx
 
 // The rule of one instruction on one state: its own tests, and where they pass how many operands it takes, and how often it pushes a value and
 // numbers of kind 3 above it.
-#[derive(Drop)]
+#[derive(Clone, Copy)]
 pub struct Rule {
     pub verdict: Verdict,
     pub blind: bool,
@@ -211,7 +213,7 @@ fn generic(e: Effect) -> Rule
 // ---- flat field reads
 
 // What a test of an operand says, and whether the operand is unknown.
-#[derive(Drop)]
+#[derive(Clone, Copy)]
 pub struct Read {
     pub verdict: Verdict,
     pub blind: bool,

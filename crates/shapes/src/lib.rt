@@ -1,4 +1,6 @@
 // Shapes of operands and locals, with their text places.
+#![tactic(auto)]
+
 ghost use Rattle.std.specs.Prelude.{◌≡◌, ◌&&◌, List, ◌∷◌, ◌++◌, [], ℕ, ◌+◌, ◌*◌, ◌-◌, ◌≤◌, ◌<◌, length, take, leb, ltb};
 ghost use Rattle.std.proofs.Math.Option.{Option, none, some};
 ghost use Rattle.definition.specs.Basics.{saturating_add, is_member};
@@ -21,7 +23,7 @@ pub const UNKNOWN_PLACES: u8 = 255;
 
 // ---- shapes
 
-#[derive(Drop)]
+#[derive(Clone, Copy)]
 pub enum Shape {
     Unknown,
     Scalar(u8),
@@ -86,7 +88,7 @@ impl Shape {
 }
 
 // The bytes of what is packed, where they are known.
-#[derive(Drop)]
+#[derive(Clone, Copy)]
 pub enum Packed {
     Bytes(u32),
     NotKnown,
@@ -144,7 +146,7 @@ pub fn contains(x: u32, n: u8, ps: [u32; 16]) -> bool
 }
 
 // So many places, or more than sixteen where count is 17.
-#[derive(Drop)]
+#[derive(Clone, Copy)]
 pub struct Places {
     pub count: u8,
     pub at: [u32; 16],
@@ -227,7 +229,7 @@ fn add_places(held: &mut [u32; 16], count: u8, n: u8, ps: [u32; 16], by: u32) ->
 }
 
 // How many places are held after one element more; open where that element's are unknown.
-#[derive(Drop)]
+#[derive(Clone, Copy)]
 pub struct Added {
     pub open: bool,
     pub count: u8,
@@ -323,7 +325,7 @@ fn elements_alike(e: u32, n: u8, ps: [u32; 16], size: u32, first: Places) -> boo
 // ---- values
 
 // A shape with its text places: known is their count, 0 to 16, or more where they are unknown. Only a composite has places.
-#[derive(Drop)]
+#[derive(Clone, Copy)]
 pub struct Value {
     pub shape: Shape,
     pub known: u8,
@@ -512,14 +514,14 @@ pub fn known_places(known: u8) -> usize
 }
 
 // How many text places a new composite has: so many, over sixteen, or not known.
-#[derive(Drop)]
+#[derive(Clone, Copy)]
 pub enum Count {
     Known(u8),
     Many,
     Open,
 }
 
-#[derive(Drop)]
+#[derive(Clone, Copy)]
 pub struct Built {
     pub count: Count,
     pub places: [u32; 16],

@@ -1,4 +1,6 @@
 // The number of all instructions, and whether the two lent sheets have room for them.
+#![tactic(auto)]
+
 ghost use Rattle.std.specs.Prelude.{◌≡◌, length};
 ghost use Rattle.definition.specs.Module.{all_ops};
 ghost use Rattle.definition.specs.Check.{sheets_test};

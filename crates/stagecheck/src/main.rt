@@ -1,5 +1,7 @@
 // Checks the listing of its one argument, a file's name, or of standard input where it has none, and writes the answer to standard output.
 // What keeps it from checking or from writing it says on standard error.
+#![tactic(auto)]
+
 ghost use Rattle.std.specs.Prelude.{length};
 ghost use Rattle.stagecheck.specs.Read.{Within};
 
@@ -7,7 +9,7 @@ use libc::{STDERR_FILENO, STDIN_FILENO, STDOUT_FILENO};
 use printed::ROOM;
 
 // What was read: how many bytes, or that reading failed.
-#[derive(Drop)]
+#[derive(Clone, Copy)]
 enum Input {
     Bytes(usize),
     Failed,

@@ -1,4 +1,6 @@
 // The check, the reader and the writer for callers in C and Rust: include/stagecheck.h declares them and says what their numbers mean.
+#![tactic(auto)]
+
 ghost use Rattle.std.specs.Prelude.{◌≡◌, ◌<◌, length, get_or};
 ghost use Rattle.definition.specs.Check.{check};
 ghost use Rattle.typed_check.specs.Equal.{Sound};

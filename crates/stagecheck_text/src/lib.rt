@@ -1,4 +1,6 @@
 // From a listing to the text that the program `stagecheck` prints for it.
+#![tactic(auto)]
+
 ghost use Rattle.definition.specs.Printed.{printed};
 ghost use Rattle.printed.specs.Writes.{Holds};
 

@@ -1,4 +1,6 @@
 // The step of the walk over instructions that lead straight onward: the state and both sheets are lent, and changed in place by one instruction after the other.
+#![tactic(auto)]
+
 ghost use Rattle.std.specs.Prelude.{◌≡◌, ◌+◌, ◌≤◌, ◌<◌, length};
 ghost use Rattle.rules.specs.Answers.{Of};
 ghost use Rattle.frame.specs.Model.{at, Long};
@@ -34,7 +36,7 @@ fn mark(heights: &mut [u8], blinds: &mut [u8], at: usize, h: usize, blind: bool)
 }
 
 // Where a stretch ended, and the height there.
-#[derive(Drop)]
+#[derive(Clone, Copy)]
 pub struct Ran {
     pub verdict: Verdict,
     pub next: usize,

@@ -1,4 +1,6 @@
 // The check of a listing: `typed_check_module`, from bytes to the answer and both sheets.
+#![tactic(auto)]
+
 ghost use Rattle.std.specs.Prelude.{◌≡◌, length, replicate};
 ghost use Rattle.definition.specs.Basics.{pass, refused};
 ghost use Rattle.definition.specs.Check.{check, check_module, conclude};

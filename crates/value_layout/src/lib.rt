@@ -1,4 +1,6 @@
 // Widths of values: the bytes of a scalar of each kind, the tags that are known, and the bytes of an address.
+#![tactic(auto)]
+
 ghost use Rattle.std.specs.Prelude.{◌≡◌, ◌≤◌, ◌/◌, ◌^◌, leb};
 ghost use Rattle.definition.specs.Shapes.{is_lacking};
 ghost use Rattle.value_layout.specs.Sizes.{width_of};
@@ -7,7 +9,7 @@ pub mod composite;
 pub mod scalar;
 
 // Bytes of a word, of a float and of an address.
-#[derive(Drop)]
+#[derive(Clone, Copy)]
 pub struct Widths {
     pub word: u8,
     pub float: u8,

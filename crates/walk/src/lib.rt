@@ -1,5 +1,7 @@
 // The walk of chunks over the tables: the stretch walker and the loop walker, which call each other. The state is in arrays that the caller lends, and so are the breaks of the
 // loop around; a walker of arms or of a loop keeps what it needs again in arrays of its own.
+#![tactic(auto)]
+
 ghost use Rattle.std.specs.Prelude.{◌≡◌, false, List, ℕ, ◌+◌, ◌≤◌, ◌<◌};
 ghost use Rattle.std.proofs.Math.Option.{none, some};
 ghost use Rattle.definition.specs.Instructions.{control, if_to, loop_to};
@@ -532,7 +534,7 @@ pub fn walk_chunk(t: &[u64], heights: &mut [u8], blinds: &mut [u8], k: usize) ->
 }
 
 // The walk of all chunks: the first that is refused, with its number.
-#[derive(Drop)]
+#[derive(Clone, Copy)]
 pub enum Walk {
     Accepted,
     Refused(usize, Verdict),

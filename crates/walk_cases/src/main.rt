@@ -1,5 +1,7 @@
 // Walks a chunk with a loop, and then makes the last pass over that loop alone: no listing brings the walk to a last pass. The loop keeps the shape of local 0
 // and changes that of local 1. The walk needs two passes and reads local 0 plainly in both; the last pass forgets both locals, so its read is blind.
+#![tactic(auto)]
+
 ghost use Rattle.std.specs.Prelude.{◌≡◌, ◌+◌, ◌≤◌, ◌<◌, length};
 ghost use Rattle.definition.specs.Instructions.{control, loop_to};
 ghost use Rattle.blocks.specs.Visits.{Placed, instr_in};

@@ -1,5 +1,7 @@
 // Writes a module back as its listing, into a lent buffer, over the reader's own formats and names. One function measures and writes: a byte past the
 // buffer's end is not written, and counts. The place after a text that no listing says is PAST, as that after a text of too many bytes, and it stays so.
+#![tactic(auto)]
+
 ghost use Rattle.std.specs.Prelude.{◌≡◌, [], ◌∷◌, ◌+◌, ◌≤◌, ◌<◌, length, get_or};
 ghost use Rattle.std.proofs.Math.Option.{some};
 ghost use Rattle.definition.specs.Format.{decimal};
