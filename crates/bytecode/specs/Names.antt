@@ -2,7 +2,7 @@
 use Rattle.std.specs.Prelude.{◌≡◌, refl, Bool, true, false, List, [], ◌∷◌, ◌++◌, map, ℕ, zero, suc, ◌+◌, ◌*◌, ◌%◌, ◌<◌, length, get_or, take, drop, eqb, ℤ, pos, ◌-ℤ◌, ◌+ℤ◌}
 use Rattle.std.proofs.Math.Option.{Option, none, some}
 use Rattle.bytecode.specs.Lists.{tabulate}
-use Rattle.std.proofs.Math.IntN.{-ℤ-+ℤ_cancel}
+use Rattle.std.proofs.Math.IntN.{ -ℤ-+ℤ_cancel}
 use Rattle.definition.specs.Shapes.{same_places}
 use Rattle.definition.specs.Format.{Bytes, bytes}
 use Rattle.definition.specs.Instructions.{Instr, plain, shaped, jump, PopN, SetLocal, Call, NewFlat, NewBoxed, GetFlat, GetBoxed, GetIndex}

@@ -1,0 +1,7 @@
+use mathlib.Core.Path.{◌∙◌, sym}
+use Rattle.bytecode.proofs.Laws.{sum_is}
+use borrow.Author.Rules.{rules}
+use Rattle.bytecode.proofs.enum_size.Goals as goal
+
+pub returns : goal.returns
+returns c = c.limited32.ensures ∙ sym (sum_is c.args.w c.args.m)

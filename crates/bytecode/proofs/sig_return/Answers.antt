@@ -1,0 +1,7 @@
+use mathlib.Core.Path.{◌∙◌}
+use Rattle.bytecode.proofs.Laws.{return_is}
+use borrow.Author.Rules.{rules}
+use Rattle.bytecode.proofs.sig_return.Goals as goal
+
+pub returns : goal.returns
+returns c = c.sig_shape.ensures ∙ return_is c.args.t.now c.args.k
