@@ -1,0 +1,14 @@
+-- `data_layout::shared_slots` meets its contract. The entries passed are inside. Assumes nothing.
+use Prim.Native.Nat.{◌-◌}
+use Rattle.bytecode.specs.Tables.{cap}
+use Rattle.bytecode.specs.Meaning.{count_low, table_header}
+use Rattle.data_layout.proofs.Laws.{Shareds, shared_start, shared_end, shared_bad, shared_good, buffer_is}
+use borrow.Author.Rules.{rules}
+use native.Mathlib.Omega.{arith}
+use Rattle.data_layout.proofs.shared_slots.Given as goal
+
+abbrev pub invariant-loop-i : goal.invariant-loop-i
+invariant-loop-i l = Shareds l.t l.i
+
+abbrev pub decreases-loop-i : goal.decreases-loop-i
+decreases-loop-i l = l.n - l.i

@@ -1,0 +1,14 @@
+use mathlib.Core.Path.{◌≡◌, refl, ◌∙◌, sym, ap, subst}
+use Prim.Native.Nat.{ℕ, ◌≤◌, ◌<◌, ◌*◌, ◌+◌, ◌-◌}
+use native.Mathlib.Omega.{arith}
+use borrow.Author.Rules.{rules}
+use lib.ListN.{length, drop, get_or}
+use Rattle.definition.specs.Format.{digits_from}
+use Rattle.listing.specs.Num.{at_end, at_low, at_high, at_digit, done, too_much, at_most}
+use Rattle.listing.proofs.digits.Given as goal
+
+abbrev pub invariant-loop-i : goal.invariant-loop-i
+invariant-loop-i l = (l.i ≤ length l.s) × (l.n ≤ 4294967295 * 10 + 9) × (digits_from 0 (drop l.at l.s) ≡ digits_from l.n (drop l.i l.s))
+
+abbrev pub decreases-loop-i : goal.decreases-loop-i
+decreases-loop-i l = length l.s - l.i

@@ -1,0 +1,15 @@
+use mathlib.Core.Path.{◌≡◌, refl, sym, ap, ◌∙◌}
+use native.Mathlib.Omega.{arith}
+use borrow.Author.Rules.{rules}
+use lib.ListN.{drop}
+use Rattle.listing.specs.Rows.{over_other, over_here, over_end, value_first, value_second, value_number, after_same, after_next}
+use Rattle.listing.proofs.value.Goals as goal
+
+pub returns-then-c-eq-SHAPE : goal.returns-then-c-eq-SHAPE
+returns-then-c-eq-SHAPE c = c.shape.ensures ∙ value_first c.args.c (drop c.args.i c.args.s.now) c.if-c-eq-SHAPE.true
+
+pub returns-then-c-eq-SHAPES : goal.returns-then-c-eq-SHAPES
+returns-then-c-eq-SHAPES c = c.shape-then-c-eq-SHAPES.ensures ∙ value_second c.args.c (drop c.args.i c.args.s.now) c.if-c-eq-SHAPES.true
+
+pub returns : goal.returns
+returns c = c.number.ensures ∙ value_number c.args.c (drop c.args.i c.args.s.now) c.if-c-eq-SHAPE.false c.if-c-eq-SHAPES.false

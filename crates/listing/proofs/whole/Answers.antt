@@ -1,0 +1,10 @@
+use mathlib.Core.Bool.{◌&&◌}
+use lib.Dec.{leb}
+use borrow.Author.Rules.{rules}
+use Rattle.listing.proofs.whole.Goals as goal
+
+pub returns-then-ok : goal.returns-then-ok
+returns-then-ok c = rw c.if-ok.true
+
+pub returns : goal.returns
+returns c = rw c.if-ok.false
