@@ -181,14 +181,14 @@ eight a b c = refl
 
 module _ (w : Widths) (e : SharedEntry) (h : Header) (W : WidthsOf h w) where
   widths_are : scalar_widths h.word h.float (address_bytes h) ≡ scalar_widths w.word w.float w.address
-  widths_are = rw (W.word_is, W.Float-is, W.address_is)
+  widths_are = rw (W.word_is, W.float_is, W.address_is)
 
   pub size_composite : 128 ≤ e.kind → size_of (Bytes e.len) ≡ shared_size h (shared_of e)
   unfolding shared_size if_composite shared_of size_of
   size_composite l = rw (le-leb 128 e.kind l)
 
   lacks_same : is_lacking h.float e.kind ≡ is_lacking w.float e.kind
-  lacks_same = rw W.Float-is
+  lacks_same = rw W.float_is
 
   module _ (l : e.kind < 128) where
     pub size_lacking : is_lacking w.float e.kind ≡ true → size_of Unknown ≡ shared_size h (shared_of e)

@@ -39,6 +39,12 @@ is_other (Break t) = false
 other_is : (x : Part) → T (is_other x) → Other ≡ x
 unfolding is_other
 other_is Other h = refl
+other_is (If _) h = elim h [ ]
+other_is (Else _) h = elim h [ ]
+other_is EndIf h = elim h [ ]
+other_is (Loop _) h = elim h [ ]
+other_is EndLoop h = elim h [ ]
+other_is (Break _) h = elim h [ ]
 
 module _ (i : Instr) where
   abbrev the_part : ℕ → Part

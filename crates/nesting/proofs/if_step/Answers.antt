@@ -1,4 +1,5 @@
 -- `nesting::if_step` meets its contract. Assumes nothing.
+use borrow.Enum.Refused.{opened}
 use mathlib.Core.Path.{sym, ◌∙◌, refl}
 use mathlib.Core.List.{[], ◌∷◌}
 use Prim.Native.Nat.{◌-◌}
@@ -20,4 +21,4 @@ returns-in-Else c = λ d H x. c.two_arms.ensures d c.args.target H refl x
 pub returns-in_default : goal.returns-in_default
 returns-in_default c = λ d H x. c.one_arm.ensures d H (omega arith) x
     (else_no d c.args.t.now c.args.code c.args.inner c.args.p H c.args.target
-    (λ q h. differs (0 ∷ 1 ∷ 3 ∷ 4 ∷ 5 ∷ 6 ∷ []) c.part_at-before.result (Else q) c.in_default.in_default-own.keys2 tt (c.part_at-before.ensures ∙ h)))
+    (λ q h. differs (0 ∷ 1 ∷ 3 ∷ 4 ∷ 5 ∷ 6 ∷ []) c.part_at-before.result (Else q) (opened c.in_default.in_default-own.keys2) tt (c.part_at-before.ensures ∙ h)))

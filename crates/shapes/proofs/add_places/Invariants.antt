@@ -10,7 +10,7 @@ use native.Mathlib.Omega.{arith}
 use Rattle.shapes.proofs.add_places.Given as goal
 
 abbrev pub invariant-loop-i : goal.invariant-loop-i
-invariant-loop-i l = (l.i ≤ l.n) × (length l.held ≡ 16) × (l.k ≤ 17) × ((l : List ℕ) → Holds l.count l.initial.held l → Holds l.k l.held (l ++ shift l.by (take l.i l.ps)))
+invariant-loop-i v = (v.i ≤ v.n) × (length v.held ≡ 16) × (v.k ≤ 17) × ((l : List ℕ) → Holds v.count v.initial.held l → Holds v.k v.held (l ++ shift v.by (take v.i v.ps)))
 
 abbrev pub decreases-loop-i : goal.decreases-loop-i
 decreases-loop-i l = l.n - l.i

@@ -1,3 +1,4 @@
+use borrow.Enum.Refused.{opened}
 use mathlib.Core.Path.{sym, ◌∙◌}
 use Rattle.shapes.specs.Model.{places_of}
 use Rattle.shapes.proofs.Text.{element_other, element_open, element_zero, element_odd, element_unlike, element_alike, part_fits}
@@ -6,7 +7,7 @@ use Rattle.shapes.proofs.Value.element_text_layout.Goals as goal
 
 pub returns-in_default : goal.returns-in_default
 unfolding places_of
-returns-in_default c = element_other _ _ _ c.in_default.in_default-own.keys2
+returns-in_default c = element_other _ _ _ (opened c.in_default.in_default-own.keys2)
 
 pub returns-then-n-gt-MOST_PLACES : goal.returns-then-n-gt-MOST_PLACES
 unfolding places_of
