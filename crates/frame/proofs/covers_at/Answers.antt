@@ -1,0 +1,15 @@
+use mathlib.Core.Path.{sym, ap, ap₂, ◌∙◌}
+use Rattle.definition.specs.Shapes.{Shape as AnyShape}
+use Rattle.shapes.specs.Cover.{covers}
+use Rattle.frame.specs.Model.{value_at}
+use Rattle.shapes.proofs.Joins.{covers_self}
+use Rattle.frame.proofs.Stores.{plain_same}
+use borrow.Author.Rules.{rules}
+use Rattle.frame.proofs.covers_at.Goals as goal
+
+pub returns-then-is_plain : goal.returns-then-is_plain
+returns-then-is_plain c = let a = c.args in
+    sym (ap (covers (value_at a.slots.now a.places.now a.i)) (sym (plain_same a.slots.now a.others.now a.places.now a.held.now a.i c.if-a-others.true (c.is_plain.ensures c.if-is_plain.true))) ∙ covers_self _)
+
+pub returns : goal.returns
+returns c = c.covers.ensures ∙ ap₂ covers c.value_at-x.ensures c.value_at-y.ensures

@@ -1,0 +1,16 @@
+use mathlib.Core.Path.{◌≡◌, subst}
+use Prim.Native.Nat.{ℕ, ◌-◌, ◌≤◌}
+use lib.ListN.{length}
+use Rattle.shapes.specs.Model.{value_of}
+use Rattle.frame.specs.Model.{at}
+use Rattle.frame.specs.Slots.{Filled}
+use Rattle.frame.proofs.Stores.{fill_start, fill_more}
+use borrow.Author.Rules.{rules}
+use native.Mathlib.Omega.{arith}
+use Rattle.frame.proofs.fill.Given as goal
+
+abbrev pub invariant-loop-i : goal.invariant-loop-i
+invariant-loop-i l = (l.lo ≤ l.i) × (l.i ≤ l.hi) × (length l.slots ≡ 96) × (length l.places ≡ 1536) × ((h : ℕ) → Filled (at h l.initial.slots l.initial.places) l.lo l.i (value_of l.v) (at h l.slots l.places))
+
+abbrev pub decreases-loop-i : goal.decreases-loop-i
+decreases-loop-i l = l.hi - l.i
