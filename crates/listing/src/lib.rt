@@ -5,7 +5,7 @@ ghost use Rattle.std.specs.Prelude.{◌≡◌, List, ◌∷◌, [], length, take
 ghost use Rattle.std.proofs.Math.Option.{none, some};
 ghost use Rattle.definition.specs.Format.{Bytes, bytes, digits_from, is_digit, begins_digit, begins_number, number_at, numbers_at, strip, begins_with};
 ghost use Rattle.definition.specs.Shapes.{same_places, is_lacking};
-ghost use Rattle.definition.specs.Ops.{ops as op-rows};
+ghost use Rattle.definition.specs.Ops.{ops as op_rows};
 ghost use Rattle.theorems.specs.KindOf.{has_kinds};
 ghost use Rattle.bytecode.specs.Meaning.{maxima_of};
 ghost use Rattle.bytecode.specs.Names.{name_table};
@@ -15,7 +15,7 @@ ghost use Rattle.definition.specs.Read.{line_forms, op_forms, read_line};
 ghost use Rattle.definition.specs.Read.{Line, Reader, at_start, next_line, within};
 ghost use Rattle.listing.specs.Reads.{ReadIs, LineEnd, read_all};
 ghost use Rattle.listing.specs.Answer.{result_of, LeftIn};
-ghost use Rattle.definition.specs.Read.{read as read-listing};
+ghost use Rattle.definition.specs.Read.{read as read_listing};
 ghost use Rattle.definition.specs.Module.{Module, all_consts, all_ops};
 ghost use Rattle.bytecode.specs.Tables.{size};
 ghost use Rattle.bytecode.specs.Held.{Held, lists, Sound};
@@ -25,7 +25,7 @@ ghost use Rattle.listing.specs.OpLines.{name_ends, name_of};
 ghost use Rattle.listing.specs.Find.{Entered, whole_line};
 ghost use Rattle.listing.specs.Rows.{Rowed, Stored, left, shapes_over, value_at, code_after};
 ghost use Rattle.listing.specs.Shape.{end_at, top_at, scalar_at, flat_at};
-ghost use Rattle.listing.specs.Num.{result, after, at_most};
+ghost use Rattle.listing.specs.Num.{number_of, after, at_most};
 
 use answer::limit;
 use bytecode::ops;
@@ -58,26 +58,26 @@ pub enum Num {
 
 // The forms, to be lent: an array that is a constant is made anew where it is named.
 pub fn line_formats() -> [u8; 176]
-    ensures* { λ r. ⌜ r ≡ formats ⌝ }
+    ensures { result ≡ formats }
 {
     FORMATS
 }
 
 pub fn format_at(table: &[u8; 176], j: usize) -> u8
     requires { (table.now ≡ formats) × (j < 176) }
-    ensures* { λ r. ⌜ r ≡ get_or formats j 0 ⌝ }
+    ensures { result ≡ get_or formats j 0 }
 {
     table[j]
 }
 
 fn wide(x: u8) -> u64
-    ensures* { λ r. ⌜ r ≡ x ⌝ }
+    ensures { result ≡ x }
 {
     x as u64
 }
 
 fn digit(b: u8) -> bool
-    ensures* { λ r. ⌜ r ≡ is_digit b ⌝ }
+    ensures { result ≡ is_digit b }
 {
     if b < b'0' {
         return false;
@@ -86,7 +86,7 @@ fn digit(b: u8) -> bool
 }
 
 fn digit_at(s: &[u8], i: usize) -> bool
-    ensures* { λ r. ⌜ r ≡ begins_digit (drop i s.now) ⌝ }
+    ensures { result ≡ begins_digit (drop i s.now) }
 {
     if i < s.len() {
         return digit(s[i]);
@@ -96,7 +96,7 @@ fn digit_at(s: &[u8], i: usize) -> bool
 
 // A digit comes first, and after a first 0 no other.
 fn number_begins(s: &[u8], i: usize) -> bool
-    ensures* { λ r. ⌜ r ≡ begins_number (drop i s.now) ⌝ }
+    ensures { result ≡ begins_number (drop i s.now) }
 {
     if s.len() <= i {
         return false;
@@ -110,7 +110,7 @@ fn number_begins(s: &[u8], i: usize) -> bool
 
 // n and its end, if n has at most 32 bits.
 fn fit(n: u64, i: usize) -> Num
-    ensures* { λ r. ⌜ ((t : Bytes) → result t r ≡ at_most 4294967295 (n, drop i t)) ⌝ }
+    ensures { ((t : Bytes) → number_of t result ≡ at_most 4294967295 (n, drop i t)) }
 {
     if n <= 4294967295 {
         Num::Read(n, i)
@@ -127,7 +127,7 @@ const NINE: u64 = 57;
 // The number that the digits from `at` on give, if it has at most 32 bits, and where they end.
 fn digits(s: &[u8], at: usize) -> Num
     requires { at ≤ length s.now }
-    ensures* { λ r. ⌜ result s.now r ≡ at_most 4294967295 (digits_from 0 (drop at s.now)) ⌝ }
+    ensures { number_of s.now result ≡ at_most 4294967295 (digits_from 0 (drop at s.now)) }
 {
     let mut n: u64 = 0;
     let mut i = at;
@@ -150,7 +150,7 @@ fn digits(s: &[u8], at: usize) -> Num
 
 // The numbers that a code admits.
 pub fn admits(c: u8, n: u64) -> bool
-    ensures* { λ r. ⌜ r ≡ admitted c n ⌝ }
+    ensures { result ≡ admitted c n }
 {
     match c {
         sort::WIDTH => is_width(n),
@@ -166,7 +166,7 @@ pub fn admits(c: u8, n: u64) -> bool
 }
 
 fn is_width(n: u64) -> bool
-    ensures* { λ r. ⌜ r ≡ is_member n (1 ∷ 2 ∷ 4 ∷ 8 ∷ []) ⌝ }
+    ensures { result ≡ is_member n (1 ∷ 2 ∷ 4 ∷ 8 ∷ []) }
 {
     match n {
         1 => true,
@@ -179,7 +179,7 @@ fn is_width(n: u64) -> bool
 
 // What a word may have, or 0 where the controller has no floats.
 fn is_float_width(n: u64) -> bool
-    ensures* { λ r. ⌜ r ≡ is_member n (0 ∷ 1 ∷ 2 ∷ 4 ∷ 8 ∷ []) ⌝ }
+    ensures { result ≡ is_member n (0 ∷ 1 ∷ 2 ∷ 4 ∷ 8 ∷ []) }
 {
     if n == 0 {
         return true;
@@ -188,7 +188,7 @@ fn is_float_width(n: u64) -> bool
 }
 
 fn is_address(n: u64) -> bool
-    ensures* { λ r. ⌜ r ≡ is_member n (3 ∷ 4 ∷ 5 ∷ 6 ∷ []) ⌝ }
+    ensures { result ≡ is_member n (3 ∷ 4 ∷ 5 ∷ 6 ∷ []) }
 {
     match n {
         3 => true,
@@ -200,7 +200,7 @@ fn is_address(n: u64) -> bool
 }
 
 fn is_constant(n: u64) -> bool
-    ensures* { λ r. ⌜ r ≡ is_member n (0 ∷ 1 ∷ 2 ∷ 3 ∷ 4 ∷ 5 ∷ 6 ∷ 255 ∷ []) ⌝ }
+    ensures { result ≡ is_member n (0 ∷ 1 ∷ 2 ∷ 3 ∷ 4 ∷ 5 ∷ 6 ∷ 255 ∷ []) }
 {
     if n <= 6 {
         return true;
@@ -210,7 +210,7 @@ fn is_constant(n: u64) -> bool
 
 // One space and a number that a code admits.
 fn number(s: &[u8], i: usize, c: u8) -> Num
-    ensures* { λ r. ⌜ result s.now r ≡ number_at (admitted c) (drop i s.now) ⌝ }
+    ensures { number_of s.now result ≡ number_at (admitted c) (drop i s.now) }
 {
     if s.len() <= i {
         return Num::Bad;
@@ -233,7 +233,7 @@ fn number(s: &[u8], i: usize, c: u8) -> Num
 
 // The place after a text.
 fn text(s: &[u8], at: usize, t: &[u8]) -> Num
-    ensures* { λ r. ⌜ after s.now r ≡ strip t.now (drop at s.now) ⌝ }
+    ensures { after s.now result ≡ strip t.now (drop at s.now) }
 {
     let mut i = at;
     let mut j = 0;
@@ -252,7 +252,7 @@ fn text(s: &[u8], at: usize, t: &[u8]) -> Num
 
 // The closing parenthesis after the word v.
 fn closed(s: &[u8], i: usize, v: u64) -> Num
-    ensures* { λ r. ⌜ result s.now r ≡ end_at v (drop i s.now) ⌝ }
+    ensures { number_of s.now result ≡ end_at v (drop i s.now) }
 {
     let Num::Read(_, e) = text(s, i, &words::CLOSE) else {
         return Num::Bad;
@@ -261,7 +261,7 @@ fn closed(s: &[u8], i: usize, v: u64) -> Num
 }
 
 fn shape_top(s: &[u8], i: usize) -> Num
-    ensures* { λ r. ⌜ result s.now r ≡ top_at (drop i s.now) ⌝ }
+    ensures { number_of s.now result ≡ top_at (drop i s.now) }
 {
     let Num::Read(_, e) = text(s, i, &words::TOP) else {
         return Num::Bad;
@@ -270,7 +270,7 @@ fn shape_top(s: &[u8], i: usize) -> Num
 }
 
 fn shape_scalar(s: &[u8], i: usize) -> Num
-    ensures* { λ r. ⌜ result s.now r ≡ scalar_at (drop i s.now) ⌝ }
+    ensures { number_of s.now result ≡ scalar_at (drop i s.now) }
 {
     let Num::Read(_, a) = text(s, i, &words::SCALAR) else {
         return Num::Bad;
@@ -282,7 +282,7 @@ fn shape_scalar(s: &[u8], i: usize) -> Num
 }
 
 fn shape_flat(s: &[u8], i: usize) -> Num
-    ensures* { λ r. ⌜ result s.now r ≡ flat_at (drop i s.now) ⌝ }
+    ensures { number_of s.now result ≡ flat_at (drop i s.now) }
 {
     let Num::Read(_, a) = text(s, i, &words::FLAT) else {
         return Num::Bad;
@@ -298,7 +298,7 @@ fn shape_flat(s: &[u8], i: usize) -> Num
 
 // A shape with the space before it, as its word.
 fn shape(s: &[u8], i: usize) -> Num
-    ensures* { λ r. ⌜ result s.now r ≡ shape_word (drop i s.now) ⌝ }
+    ensures { number_of s.now result ≡ shape_word (drop i s.now) }
 {
     if let Num::Read(v, e) = shape_top(s, i) {
         return Num::Read(v, e);
@@ -319,7 +319,7 @@ pub struct Row {
 }
 
 fn no_row() -> Row
-    ensures* { λ r. ⌜ r.ok ≡ false ⌝ }
+    ensures { result.ok ≡ false }
 {
     Row {
         ok: false,
@@ -330,7 +330,7 @@ fn no_row() -> Row
 }
 
 fn full_row(next: usize, count: usize, vals: [u64; 19]) -> Row
-    ensures* { λ r. ⌜ (r.ok ≡ true) × (r.next ≡ next) × (r.count ≡ count) × (r.vals ≡ vals) ⌝ }
+    ensures { (result.ok ≡ true) × (result.next ≡ next) × (result.count ≡ count) × (result.vals ≡ vals) }
 {
     Row {
         ok: true,
@@ -342,7 +342,7 @@ fn full_row(next: usize, count: usize, vals: [u64; 19]) -> Row
 
 // Whether the code is that of shapes, and no space comes next.
 fn over(s: &[u8], i: usize, c: u8) -> bool
-    ensures* { λ r. ⌜ r ≡ shapes_over c (drop i s.now) ⌝ }
+    ensures { result ≡ shapes_over c (drop i s.now) }
 {
     if c != sort::SHAPES {
         return false;
@@ -355,7 +355,7 @@ fn over(s: &[u8], i: usize, c: u8) -> bool
 
 // A shape's word, or a number that the code admits.
 fn value(s: &[u8], i: usize, c: u8) -> Num
-    ensures* { λ r. ⌜ result s.now r ≡ value_at c (drop i s.now) ⌝ }
+    ensures { number_of s.now result ≡ value_at c (drop i s.now) }
 {
     if c == sort::SHAPE {
         return shape(s, i);
@@ -369,14 +369,14 @@ fn value(s: &[u8], i: usize, c: u8) -> Num
 // The place in the formats after a value: shapes stay where they are.
 pub fn code_after(j: usize, c: u8) -> usize
     requires { j < 176 }
-    ensures* { λ r. ⌜ r ≡ code_after j c ⌝ }
+    ensures { result ≡ code_after j c }
 {
     if c == sort::SHAPES { j } else { j + 1 }
 }
 
 // Whether the byte at i is c.
 fn is_byte(s: &[u8], i: usize, c: u8) -> bool
-    ensures* { λ r. ⌜ r ≡ begins_with c (drop i s.now) ⌝ }
+    ensures { result ≡ begins_with c (drop i s.now) }
 {
     if i < s.len() {
         return s[i] == c;
@@ -387,7 +387,7 @@ fn is_byte(s: &[u8], i: usize, c: u8) -> bool
 // The line s by form f, from its beginning.
 fn scan(table: &[u8; 176], s: &[u8], f: usize) -> Row
     requires { (f < 11) × (length s.now ≤ 65536) × (table.now ≡ formats) }
-    ensures* { λ r. ⌜ Rowed (left s.now 0 (f * 16)) s.now [] r ⌝ }
+    ensures { Rowed (left s.now 0 (f * 16)) s.now [] result }
 {
     let mut vals = [0u64; 19];
     let mut n: usize = 0;
@@ -434,7 +434,7 @@ pub struct Entry {
 }
 
 fn no_entry() -> Entry
-    ensures* { λ r. ⌜ r.form ≡ 86 ⌝ }
+    ensures { result.form ≡ 86 }
 {
     Entry {
         form: form::NONE,
@@ -445,7 +445,7 @@ fn no_entry() -> Entry
 
 // Whether a form was read, and to the end of the line.
 fn whole(ok: bool, next: usize, end: usize) -> bool
-    ensures* { λ r. ⌜ r ≡ (ok && leb end next) ⌝ }
+    ensures { result ≡ (ok && leb end next) }
 {
     if ok {
         return end <= next;
@@ -456,7 +456,7 @@ fn whole(ok: bool, next: usize, end: usize) -> bool
 // A line that is no op, by the first form that takes it whole.
 fn line_entry(s: &[u8]) -> Entry
     requires { length s.now ≤ 65536 }
-    ensures* { λ r. ⌜ Entered (whole_line line_forms s.now) r ⌝ }
+    ensures { Entered (whole_line line_forms s.now) result }
 {
     let table = line_formats();
     let mut f = 0;
@@ -478,7 +478,7 @@ fn line_entry(s: &[u8]) -> Entry
 
 // Whether an op's name ends at i: before `)`, before a space and a digit, or with the line.
 fn name_ends(s: &[u8], i: usize) -> bool
-    ensures* { λ r. ⌜ r ≡ name_ends (drop i s.now) ⌝ }
+    ensures { result ≡ name_ends (drop i s.now) }
 {
     if s.len() <= i {
         return true;
@@ -496,7 +496,7 @@ fn name_ends(s: &[u8], i: usize) -> bool
 // Where the name from `at` on ends.
 fn name_end(s: &[u8], at: usize) -> usize
     requires { at ≤ length s.now }
-    ensures* { λ r. ⌜ (at ≤ r) × (r ≤ length s.now) × (take (r - at) (drop at s.now) ≡ name_of (drop at s.now)) ⌝ }
+    ensures { (at ≤ result) × (result ≤ length s.now) × (take (result - at) (drop at s.now) ≡ name_of (drop at s.now)) }
 {
     let mut i = at;
     while i < s.len() {
@@ -513,7 +513,7 @@ const MOST_KIND: u64 = 7;
 
 // The code of the numbers up to a maximum.
 pub fn maximum_code(m: u64) -> u8
-    ensures* { λ r. ⌜ r ≡ max_code m ⌝ }
+    ensures { result ≡ max_code m }
 {
     if m == 255 {
         return sort::BITS_8;
@@ -533,7 +533,7 @@ pub fn maximum_code(m: u64) -> u8
 // The operands of a row, from `at` on.
 fn operands(names: &[u64; 781], s: &[u8], at: usize, row: usize) -> Row
     requires { (row < 75) × (names.now ≡ name_table) }
-    ensures* { λ r. ⌜ Rowed (numbers_at (maxima_of row) (drop at s.now)) s.now [] r ⌝ }
+    ensures { Rowed (numbers_at (maxima_of row) (drop at s.now)) s.now [] result }
 {
     let mut vals = [0u64; 19];
     let mut i = at;
@@ -556,7 +556,7 @@ fn operands(names: &[u64; 781], s: &[u8], at: usize, row: usize) -> Row
 
 // Whether the line ends with `)` at i, and what stands before it was read.
 fn closes(s: &[u8], i: usize, ok: bool) -> bool
-    ensures* { λ r. ⌜ r ≡ (ok && same_places (drop i s.now) (41 ∷ [])) ⌝ }
+    ensures { result ≡ (ok && same_places (drop i s.now) (41 ∷ [])) }
 {
     if !ok {
         return false;
@@ -573,7 +573,7 @@ fn closes(s: &[u8], i: usize, ok: bool) -> bool
 // A line that begins as an op, by the row of its name.
 fn op_entry(names: &[u64; 781], s: &[u8]) -> Entry
     requires { (strip (bytes "(op ") s.now ≡ some (drop 4 s.now)) × (4 ≤ length s.now) × (names.now ≡ name_table) }
-    ensures* { λ r. ⌜ Entered (whole_line (op_forms 0 op-rows) s.now) r ⌝ }
+    ensures { Entered (whole_line (op_forms 0 op_rows) s.now) result }
 {
     let at = 4;
     let e = name_end(s, at);
@@ -597,7 +597,7 @@ fn op_entry(names: &[u64; 781], s: &[u8]) -> Entry
 // The line that the bytes say.
 fn read_entry(names: &[u64; 781], s: &[u8]) -> Entry
     requires { (length s.now ≤ 65536) × (names.now ≡ name_table) }
-    ensures* { λ r. ⌜ Entered (read_line s.now) r ⌝ }
+    ensures { Entered (read_line s.now) result }
 {
     let Num::Read(_, _) = text(s, 0, &words::OP) else {
         return line_entry(s);
@@ -619,7 +619,7 @@ const CLOSING: usize = bytecode::TABLES;
 
 // The table of a form, or CLOSING.
 fn kind_of(form: usize) -> usize
-    ensures* { λ r. ⌜ (r ≡ form_kind form) × (r < 11) ⌝ }
+    ensures { (result ≡ form_kind form) × (result < 11) }
 {
     match form {
         form::MODULE => bytecode::HEADER,
@@ -640,7 +640,7 @@ fn kind_of(form: usize) -> usize
 // For each table, and last the closing line, the first place where its lines may stand.
 fn low_of(kind: usize) -> u64
     requires { kind < 11 }
-    ensures* { λ r. ⌜ r ≡ get_or lows kind 0 ⌝ }
+    ensures { result ≡ get_or lows kind 0 }
 {
     match kind {
         bytecode::HEADER => place::START,
@@ -660,7 +660,7 @@ fn low_of(kind: usize) -> u64
 // And the last such place.
 fn high_of(kind: usize) -> u64
     requires { kind < 11 }
-    ensures* { λ r. ⌜ r ≡ get_or highs kind 0 ⌝ }
+    ensures { result ≡ get_or highs kind 0 }
 {
     match kind {
         bytecode::HEADER => place::START,
@@ -680,7 +680,7 @@ fn high_of(kind: usize) -> u64
 // The place after a line of a table.
 fn place_after_row(kind: usize) -> u64
     requires { kind < 10 }
-    ensures* { λ r. ⌜ r ≡ get_or nexts kind 0 ⌝ }
+    ensures { result ≡ get_or nexts kind 0 }
 {
     match kind {
         bytecode::HEADER => place::SLOTS,
@@ -698,7 +698,7 @@ fn place_after_row(kind: usize) -> u64
 
 fn place_after(kind: usize, place: u64) -> u64
     requires { kind < 11 }
-    ensures* { λ r. ⌜ r ≡ place_after kind place ⌝ }
+    ensures { result ≡ place_after kind place }
 {
     if kind == CLOSING {
         if place::CONSTANTS <= place {
@@ -711,7 +711,7 @@ fn place_after(kind: usize, place: u64) -> u64
 
 fn stands(place: u64, kind: usize) -> bool
     requires { kind < 11 }
-    ensures* { λ r. ⌜ r ≡ within (get_or lows kind 0) (get_or highs kind 0) place ⌝ }
+    ensures { result ≡ within (get_or lows kind 0) (get_or highs kind 0) place }
 {
     if place < low_of(kind) {
         return false;
@@ -721,7 +721,7 @@ fn stands(place: u64, kind: usize) -> bool
 
 // Whether an operand names a kind that a module lacks: it is a kind by the largest number that it may be. No kind has more than 8 bits.
 pub fn names_lacking(float: u8, most: u64, value: u64) -> bool
-    ensures* { λ r. ⌜ r ≡ (eqb most 7 && is_lacking float value) ⌝ }
+    ensures { result ≡ (eqb most 7 && is_lacking float value) }
 {
     if most != MOST_KIND {
         return false;
@@ -735,7 +735,7 @@ pub fn names_lacking(float: u8, most: u64, value: u64) -> bool
 // Whether no operand of a row names a kind that a module lacks. One with floats lacks none, and is spared the loop.
 fn has_kinds(names: &[u64; 781], float: u8, row: usize, e: Entry) -> bool
     requires { (row < 75) × (names.now ≡ name_table) }
-    ensures* { λ r. ⌜ ((vs : List ℕ) → Stored e.vals e.count vs → r ≡ has_kinds float (maxima_of row) vs) ⌝ }
+    ensures { ((vs : List ℕ) → Stored e.vals e.count vs → result ≡ has_kinds float (maxima_of row) vs) }
 {
     if float != 0 {
         return true;
@@ -755,7 +755,7 @@ fn has_kinds(names: &[u64; 781], float: u8, row: usize, e: Entry) -> bool
 // Whether a line may follow at a place. I and H of the first line are unequal, and an op names no kind that the module lacks.
 fn may_stand(names: &[u64; 781], float: u8, place: u64, e: Entry) -> bool
     requires { (e.form < 86) × (names.now ≡ name_table) }
-    ensures* { λ r. ⌜ ((vs : List ℕ) → Stored e.vals e.count vs → r ≡ may_stand float place e.form vs) ⌝ }
+    ensures { ((vs : List ℕ) → Stored e.vals e.count vs → result ≡ may_stand float place e.form vs) }
 {
     let form = e.form;
     let vals = e.vals;
@@ -782,7 +782,7 @@ const NO_LIMIT: u64 = 0;
 
 // The limit that a line meets by itself: a signature of more than 16 parameters, or LOCALS over 32.
 fn own_limit(e: Entry) -> u64
-    ensures* { λ r. ⌜ ((vs : List ℕ) → Stored e.vals e.count vs → own_limit e.form vs ≡ limit_of r) × (r ≤ 3) × (r ≡ 1 → ⊥) ⌝ }
+    ensures { ((vs : List ℕ) → Stored e.vals e.count vs → own_limit e.form vs ≡ limit_of result) × (result ≤ 3) × (result ≡ 1 → ⊥) }
 {
     let form = e.form;
     let vals = e.vals;
@@ -802,14 +802,14 @@ fn own_limit(e: Entry) -> u64
 }
 
 fn wide_size(x: usize) -> u64
-    ensures* { λ r. ⌜ r ≡ x ⌝ }
+    ensures { result ≡ x }
 {
     x as u64
 }
 
 // The first word of a line's row: 0 or 1 for a slot, the op's number, else how many values follow.
 fn head_word(form: usize, count: usize) -> u64
-    ensures* { λ r. ⌜ r ≡ head_word form count ⌝ }
+    ensures { result ≡ head_word form count }
 {
     if form::FIRST_OP <= form {
         return wide_size(form - form::FIRST_OP);
@@ -825,7 +825,7 @@ fn head_word(form: usize, count: usize) -> u64
 
 // The words of a line's row; a chunk's row says besides how many constants and instructions come before it.
 fn row_words(e: Entry, constants: u64, instructions: u64) -> [u64; 19]
-    ensures* { λ r. ⌜ ((m : Module) (vs : List ℕ) (l : Line) → Stored e.vals e.count vs → Fits l e.form vs → own_limit e.form vs ≡ none → constants ≡ length (all_consts m.chunks) → instructions ≡ length (all_ops m.chunks) → SameWords r (row_words m e.form vs)) ⌝ }
+    ensures { ((m : Module) (vs : List ℕ) (l : Line) → Stored e.vals e.count vs → Fits l e.form vs → own_limit e.form vs ≡ none → constants ≡ length (all_consts m.chunks) → instructions ≡ length (all_ops m.chunks) → SameWords result (row_words m e.form vs)) }
 {
     let form = e.form;
     let mut words = e.vals;
@@ -841,7 +841,7 @@ fn row_words(e: Entry, constants: u64, instructions: u64) -> [u64; 19]
 // One line, from the tables before it to the tables after it.
 fn one_line(names: &[u64; 781], t: &mut [u64], place: u64, s: &[u8]) -> Step
     requires { (length t.old ≡ size) × (length s.now ≤ 65536) × (names.now ≡ name_table) }
-    ensures* { λ r. ⌜ ((n : ℕ) (q : Reader) → q.place ≡ place → Held t.old (lists q) → Sound q → StepIs n (next_line n q s.now) r t.new) × (length t.new ≡ size) ⌝ }
+    ensures { ((n : ℕ) (q : Reader) → q.place ≡ place → Held t.old (lists q) → Sound q → StepIs n (next_line n q s.now) result t.new) × (length t.new ≡ size) }
 {
     let e = read_entry(names, s);
     if form::NONE <= e.form {
@@ -872,7 +872,7 @@ fn one_line(names: &[u64; 781], t: &mut [u64], place: u64, s: &[u8]) -> Step
 // Where the line from `at` on ends: at its LF, or with the bytes.
 fn line_end(s: &[u8], at: usize) -> usize
     requires { at ≤ length s.now }
-    ensures* { λ r. ⌜ LineEnd s.now at r ⌝ }
+    ensures { LineEnd s.now at result }
 {
     let mut i = at;
     while i < s.len() {
@@ -895,7 +895,7 @@ pub enum Reading {
 // No table has a row.
 fn clear(t: &mut [u64])
     requires { length t.old ≡ size }
-    ensures* { λ r. ⌜ Held t.new (lists at_start) ⌝ }
+    ensures { Held t.new (lists at_start) }
 {
     let mut k = 0;
     while k < bytecode::TABLES {
@@ -907,7 +907,7 @@ fn clear(t: &mut [u64])
 // Lines from the first on, each after the tables of those before it.
 fn read_lines(names: &[u64; 781], s: &[u8], t: &mut [u64]) -> Reading
     requires { (length s.now ≤ 65536) × Held t.old (lists at_start) × (names.now ≡ name_table) }
-    ensures* { λ r. ⌜ ReadIs (read_all s.now) r t.new ⌝ }
+    ensures { ReadIs (read_all s.now) result t.new }
 {
     let mut place: u64 = place::START;
     let mut lines: u64 = 0;
@@ -943,7 +943,7 @@ fn read_lines(names: &[u64; 781], s: &[u8], t: &mut [u64]) -> Reading
 
 // Reads a listing into lent tables, whatever they hold.
 pub fn read(s: &[u8], t: &mut [u64; 22232]) -> Reading
-    ensures* { λ r. ⌜ (read-listing s.now ≡ result_of r t.new) × LeftIn r t.new ⌝ }
+    ensures { (read_listing s.now ≡ result_of result t.new) × LeftIn result t.new }
 {
     if 65536 < s.len() {
         return Reading::Limit(limit::BYTES);

@@ -4,7 +4,7 @@
 ghost use Rattle.std.specs.Prelude.{◌≡◌, ◌<◌, length, get_or};
 ghost use Rattle.definition.specs.Check.{check};
 ghost use Rattle.typed_check.specs.Equal.{Sound};
-ghost use Rattle.definition.specs.Read.{read as read-listing};
+ghost use Rattle.definition.specs.Read.{read as read_listing};
 ghost use Rattle.listing.specs.Answer.{result_of, LeftIn};
 ghost use Rattle.answer.specs.Answer.{answer_of};
 ghost use Rattle.writer.specs.Tables.{write_tables};
@@ -99,7 +99,7 @@ pub extern "C" fn stagecheck_read(
     tables: &mut [u64; 22232],
     answer: &mut [u64; 8],
 ) -> usize
-    ensures { ReadGiven (read-listing listing.now) result answer.new tables.new }
+    ensures { ReadGiven (read_listing listing.now) result answer.new tables.new }
 {
     let r = listing::read(listing, tables);
     let a = read_answer(r, tables);

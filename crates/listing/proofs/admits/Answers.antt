@@ -16,7 +16,7 @@ returns-in-136 c = c.is_float_width.ensures ∙ sym (ap (λ (k : ℕ). admitted 
 
 pub returns-in-132 : goal.returns-in-132
 unfolding admitted choose
-returns-in-132 c = c.is_Address.ensures ∙ sym (ap (λ (k : ℕ). admitted k c.args.n) c.in-132.is)
+returns-in-132 c = c.is_address.ensures ∙ sym (ap (λ (k : ℕ). admitted k c.args.n) c.in-132.is)
 
 pub returns-in-133 : goal.returns-in-133
 unfolding admitted choose

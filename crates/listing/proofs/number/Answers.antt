@@ -1,8 +1,9 @@
+use mathlib.Core.Bool.{not}
 use mathlib.Core.Path.{◌≡◌, refl, sym, ap, ◌∙◌}
 use native.Mathlib.Omega.{arith}
 use borrow.Author.Rules.{rules}
 use borrow.Author.Tests.{not-true, not-false}
-use Rattle.listing.specs.Num.{result, number_short, number_space, number_bad, number_big, number_got, number_not}
+use Rattle.listing.specs.Num.{number_of, number_short, number_space, number_bad, number_big, number_got, number_not}
 use Rattle.listing.proofs.number.Goals as goal
 
 pub returns-then-s-i : goal.returns-then-s-i
@@ -12,13 +13,13 @@ pub returns-then-s-i-ne32 : goal.returns-then-s-i-ne32
 returns-then-s-i-ne32 c = number_space c.args.s.now c.args.i c.args.c (omega arith) c.if-s-i-ne32.true
 
 pub returns-then-not-number_begins : goal.returns-then-not-number_begins
-returns-then-not-number_begins c = number_bad c.args.s.now c.args.i c.args.c (omega arith) c.if-s-i-ne32.false _ c.number_begins.ensures (not-true _ c.if-not-number_begins.true)
+returns-then-not-number_begins c = number_bad c.args.s.now c.args.i c.args.c (omega arith) c.if-s-i-ne32.false _ c.number_begins.ensures (not-true _ (ap not c.if-not-number_begins.true))
 
 pub returns-in_default : goal.returns-in_default
-returns-in_default c = number_big c.args.s.now c.args.i c.args.c (omega arith) c.if-s-i-ne32.false _ c.number_begins.ensures (not-false _ c.if-not-number_begins.false) (ap (result c.args.s.now) (sym c.in_default.is) ∙ c.digits.ensures)
+returns-in_default c = number_big c.args.s.now c.args.i c.args.c (omega arith) c.if-s-i-ne32.false _ c.number_begins.ensures (not-false _ (ap not c.if-not-number_begins.false)) (ap (number_of c.args.s.now) (sym c.in_default.is) ∙ c.digits.ensures)
 
 pub returns-then-admits : goal.returns-then-admits
-returns-then-admits c = number_got c.args.s.now c.args.i c.args.c (omega arith) c.if-s-i-ne32.false _ c.number_begins.ensures (not-false _ c.if-not-number_begins.false) c.in-Read.v c.in-Read.next (ap (result c.args.s.now) (sym c.in-Read.is) ∙ c.digits.ensures) (sym c.admits.ensures ∙ c.if-admits.true)
+returns-then-admits c = number_got c.args.s.now c.args.i c.args.c (omega arith) c.if-s-i-ne32.false _ c.number_begins.ensures (not-false _ (ap not c.if-not-number_begins.false)) c.in-Read.v c.in-Read.next (ap (number_of c.args.s.now) (sym c.in-Read.is) ∙ c.digits.ensures) (sym c.admits.ensures ∙ c.if-admits.true)
 
 pub returns : goal.returns
-returns c = number_not c.args.s.now c.args.i c.args.c (omega arith) c.if-s-i-ne32.false _ c.number_begins.ensures (not-false _ c.if-not-number_begins.false) c.in-Read.v c.in-Read.next (ap (result c.args.s.now) (sym c.in-Read.is) ∙ c.digits.ensures) (sym c.admits.ensures ∙ c.if-admits.false)
+returns c = number_not c.args.s.now c.args.i c.args.c (omega arith) c.if-s-i-ne32.false _ c.number_begins.ensures (not-false _ (ap not c.if-not-number_begins.false)) c.in-Read.v c.in-Read.next (ap (number_of c.args.s.now) (sym c.in-Read.is) ∙ c.digits.ensures) (sym c.admits.ensures ∙ c.if-admits.false)

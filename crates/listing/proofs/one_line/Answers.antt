@@ -1,3 +1,4 @@
+use mathlib.Core.Bool.{not}
 use mathlib.Core.Path.{◌≡◌, ◌∙◌, sym, ap, refl, subst}
 use mathlib.Core.Bool.{Bool, true, false}
 use mathlib.Core.List.{List}
@@ -29,7 +30,7 @@ returns-then-not-may_stand c = (
       let vs : List ℕ = (c.read_entry-e.ensures.one low).1 in
       let m : may_stand q.so_far.header.float q.place c.read_entry-e.result.form vs ≡ false =
       stood c.args.t.now q held c.args.place c.float_of.result c.read_entry-e.result.form vs c.may_stand.result false p c.float_of.ensures
-      (c.may_stand.ensures vs (c.read_entry-e.ensures.one low).4) (not-true c.may_stand.result c.if-not-may_stand.true) in
+      (c.may_stand.ensures vs (c.read_entry-e.ensures.one low).4) (not-true c.may_stand.result (ap not c.if-not-may_stand.true)) in
       step_misplaced n q c.args.s.now c.read_entry-e.result c.read_entry-e.ensures low m _,
   c.requires.0,
 )
@@ -41,7 +42,7 @@ returns-then-k-eq-CLOSING c = (
       let vs : List ℕ = (c.read_entry-e.ensures.one low).1 in
       let m : may_stand q.so_far.header.float q.place c.read_entry-e.result.form vs ≡ true =
       stood c.args.t.now q held c.args.place c.float_of.result c.read_entry-e.result.form vs c.may_stand.result true p c.float_of.ensures
-      (c.may_stand.ensures vs (c.read_entry-e.ensures.one low).4) (not-false c.may_stand.result c.if-not-may_stand.false) in
+      (c.may_stand.ensures vs (c.read_entry-e.ensures.one low).4) (not-false c.may_stand.result (ap not c.if-not-may_stand.false)) in
       let k : c.kind_of-k.result ≡ form_kind c.read_entry-e.result.form = c.kind_of-k.ensures.0 in
       step_close n q c.args.s.now c.read_entry-e.result c.read_entry-e.ensures low m c.args.t.now held sound (sym k ∙ c.if-k-eq-CLOSING.true) c.place_after.result
       (c.place_after.ensures ∙ ap (λ (x : ℕ). place_after x c.args.place) k ∙ ap (place_after (form_kind c.read_entry-e.result.form)) (sym p)),
@@ -55,7 +56,7 @@ returns-then-cap_of-t c = (
       let vs : List ℕ = (c.read_entry-e.ensures.one low).1 in
       let m : may_stand q.so_far.header.float q.place c.read_entry-e.result.form vs ≡ true =
       stood c.args.t.now q held c.args.place c.float_of.result c.read_entry-e.result.form vs c.may_stand.result true p c.float_of.ensures
-      (c.may_stand.ensures vs (c.read_entry-e.ensures.one low).4) (not-false c.may_stand.result c.if-not-may_stand.false) in
+      (c.may_stand.ensures vs (c.read_entry-e.ensures.one low).4) (not-false c.may_stand.result (ap not c.if-not-may_stand.false)) in
       let k : c.kind_of-k.result ≡ form_kind c.read_entry-e.result.form = c.kind_of-k.ensures.0 in
       let small : form_kind c.read_entry-e.result.form < 10 = omega (arith, c.kind_of-k.ensures.1, c.if-k-eq-CLOSING.false) in
       step_full n q c.args.s.now c.read_entry-e.result c.read_entry-e.ensures low m c.args.t.now held sound small (subst (λ (x : ℕ). cap x ≤ get_or c.args.t.now x 0) k (omega (
@@ -72,7 +73,7 @@ returns-then-own-eq-TABLE c = (
       let vs : List ℕ = (c.read_entry-e.ensures.one low).1 in
       let m : may_stand q.so_far.header.float q.place c.read_entry-e.result.form vs ≡ true =
       stood c.args.t.now q held c.args.place c.float_of.result c.read_entry-e.result.form vs c.may_stand.result true p c.float_of.ensures
-      (c.may_stand.ensures vs (c.read_entry-e.ensures.one low).4) (not-false c.may_stand.result c.if-not-may_stand.false) in
+      (c.may_stand.ensures vs (c.read_entry-e.ensures.one low).4) (not-false c.may_stand.result (ap not c.if-not-may_stand.false)) in
       let k : c.kind_of-k.result ≡ form_kind c.read_entry-e.result.form = c.kind_of-k.ensures.0 in
       let small : form_kind c.read_entry-e.result.form < 10 = omega (arith, c.kind_of-k.ensures.1, c.if-k-eq-CLOSING.false) in
       let room : get_or c.args.t.now (form_kind c.read_entry-e.result.form) 0 < cap (form_kind c.read_entry-e.result.form) = subst (λ (x : ℕ). get_or c.args.t.now x 0 < cap x)
@@ -89,7 +90,7 @@ returns-then-own-eq-LOCALS c = (
       let vs : List ℕ = (c.read_entry-e.ensures.one low).1 in
       let m : may_stand q.so_far.header.float q.place c.read_entry-e.result.form vs ≡ true =
       stood c.args.t.now q held c.args.place c.float_of.result c.read_entry-e.result.form vs c.may_stand.result true p c.float_of.ensures
-      (c.may_stand.ensures vs (c.read_entry-e.ensures.one low).4) (not-false c.may_stand.result c.if-not-may_stand.false) in
+      (c.may_stand.ensures vs (c.read_entry-e.ensures.one low).4) (not-false c.may_stand.result (ap not c.if-not-may_stand.false)) in
       let k : c.kind_of-k.result ≡ form_kind c.read_entry-e.result.form = c.kind_of-k.ensures.0 in
       let small : form_kind c.read_entry-e.result.form < 10 = omega (arith, c.kind_of-k.ensures.1, c.if-k-eq-CLOSING.false) in
       let room : get_or c.args.t.now (form_kind c.read_entry-e.result.form) 0 < cap (form_kind c.read_entry-e.result.form) = subst (λ (x : ℕ). get_or c.args.t.now x 0 < cap x)
@@ -107,7 +108,7 @@ returns c = (
       let vs : List ℕ = (c.read_entry-e.ensures.one low).1 in
       let m : may_stand q.so_far.header.float q.place c.read_entry-e.result.form vs ≡ true =
       stood c.args.t.now q held c.args.place c.float_of.result c.read_entry-e.result.form vs c.may_stand.result true p c.float_of.ensures
-      (c.may_stand.ensures vs (c.read_entry-e.ensures.one low).4) (not-false c.may_stand.result c.if-not-may_stand.false) in
+      (c.may_stand.ensures vs (c.read_entry-e.ensures.one low).4) (not-false c.may_stand.result (ap not c.if-not-may_stand.false)) in
       let k : c.kind_of-k.result ≡ form_kind c.read_entry-e.result.form = c.kind_of-k.ensures.0 in
       let small : form_kind c.read_entry-e.result.form < 10 = omega (arith, c.kind_of-k.ensures.1, c.if-k-eq-CLOSING.false) in
       let room : get_or c.args.t.now (form_kind c.read_entry-e.result.form) 0 < cap (form_kind c.read_entry-e.result.form) = subst (λ (x : ℕ). get_or c.args.t.now x 0 < cap x)
@@ -116,6 +117,6 @@ returns c = (
       (c.read_entry-e.ensures.one low).4 ∙ ap limit_of (let z : c.own_limit-own.result ≡ 0 = zero_of c.own_limit-own.result c.own_limit-own.ensures.1
       c.own_limit-own.ensures.2 c.if-own-eq-TABLE.false c.if-own-eq-LOCALS.false in z)) c.row_words-row.result _ c.place_after-2.result (c.place_after-2.ensures ∙ ap (λ (x
       : ℕ). place_after x c.args.place) k ∙ ap (place_after (form_kind c.read_entry-e.result.form)) (sym p)) c.row_words-row.ensures (subst (λ (x : ℕ).
-      Appended c.args.t.now x c.row_words-row.result c.append.new.0) k c.append.ensures),
+      Appended c.args.t.now x c.row_words-row.result c.append.new.t) k c.append.ensures),
   c.append.ensures.long ∙ c.requires.0,
 )

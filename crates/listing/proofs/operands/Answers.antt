@@ -4,7 +4,7 @@ use mathlib.Core.Logic.{⊎_elim}
 use Prim.Native.Nat.{ℕ, ◌-◌, ◌≤◌, ◌+◌}
 use lib.ListN.{drop}
 use Rattle.definition.specs.Format.{number_at}
-use Rattle.listing.specs.Num.{result}
+use Rattle.listing.specs.Num.{number_of}
 use Rattle.listing.specs.Scan.{admitted, max_code}
 use Rattle.listing.specs.Rows.{nothing_stored}
 use Rattle.listing.specs.OpRead.{ReadTo, read_start, no_more, all_read, operand_bad, operand_read}
@@ -21,7 +21,7 @@ maximum-m-requires c = (c.requires.1, c.requires.0, c.loop-j-test.true)
 pub returns-in_default : goal.returns-in_default
 returns-in_default c = operand_bad c.args.row c.args.s.now c.args.at (search rules) c.loop-j.i c.loop-j.j c.loop-j.vals c.loop-j.invariant.1 (λ e. c.if-m-eq0.false (c.maximum-m.ensures ∙ e))
     c.no_row.result c.no_row.ensures
-    (ap (result c.args.s.now) (sym c.in_default.is) ∙ c.number.ensures
+    (ap (number_of c.args.s.now) (sym c.in_default.is) ∙ c.number.ensures
     ∙ ap (λ (x : ℕ). number_at (admitted x) (drop c.loop-j.i c.args.s.now)) (c.maximum_code-c.ensures ∙ ap max_code c.maximum-m.ensures))
 
 pub bounds-vals-j : goal.bounds-vals-j
@@ -32,7 +32,7 @@ loop-j-preserved c = (
   omega arith,
   operand_read c.args.row c.args.s.now c.args.at (search rules) c.loop-j.i c.loop-j.j c.loop-j.vals c.loop-j.invariant.1 (λ e. c.if-m-eq0.false (c.maximum-m.ensures ∙ e))
       (omega arith) c.in-Read.v c.in-Read.next
-      (ap (result c.args.s.now) (sym c.in-Read.is) ∙ c.number.ensures
+      (ap (number_of c.args.s.now) (sym c.in-Read.is) ∙ c.number.ensures
       ∙ ap (λ (x : ℕ). number_at (admitted x) (drop c.loop-j.i c.args.s.now)) (c.maximum_code-c.ensures ∙ ap max_code c.maximum-m.ensures)),
 )
 

@@ -4,7 +4,7 @@ use mathlib.Core.Logic.{⊎_elim}
 use Prim.Native.Nat.{ℕ, ◌-◌, ◌≤◌, ◌+◌}
 use lib.ListN.{drop}
 use Rattle.definition.specs.Format.{number_at}
-use Rattle.listing.specs.Num.{result}
+use Rattle.listing.specs.Num.{number_of}
 use Rattle.listing.specs.Scan.{admitted, max_code}
 use Rattle.listing.specs.Rows.{nothing_stored}
 use Rattle.listing.specs.OpRead.{ReadTo, read_start, no_more, all_read, operand_bad, operand_read}

@@ -4,7 +4,7 @@ use mathlib.Core.Logic.{⊎_elim}
 use Prim.Native.Nat.{ℕ, ◌+◌, ◌*◌, ◌-◌, ◌≤◌, ◌<◌}
 use lib.ListN.{length, drop, get_or}
 use Rattle.listing.specs.Scan.{formats, joined}
-use Rattle.listing.specs.Num.{result}
+use Rattle.listing.specs.Num.{number_of}
 use Rattle.listing.specs.Rows.{Sofar, sofar_start, sofar_on, sofar_bad, sofar_done, sofar_kept, sofar_lost, nothing_stored, left, left_out, left_end, byte_in, byte_is, byte_not, left_over, value_none, value_more, shapes_over, value_at, code_after, less}
 use borrow.Author.Tests.{not-true, not-false}
 use Rattle.definition.specs.Format.{begins_with}

@@ -2,15 +2,15 @@ use mathlib.Core.Path.{◌≡◌, refl, sym, ap, ◌∙◌}
 use native.Mathlib.Omega.{arith}
 use borrow.Author.Rules.{rules}
 use lib.ListN.{drop}
-use Rattle.listing.specs.Num.{result, after}
+use Rattle.listing.specs.Num.{number_of, after}
 use Rattle.listing.specs.Shape.{closed_bad, closed_got, top_bad, top_got, scalar_bad, scalar_none, scalar_got, flat_bad, flat_none, flat_none_size, flat_got, small_k, small_n, first_top, first_scalar, first_flat}
 use Rattle.listing.proofs.shape.Goals as goal
 
 pub returns-in-Read : goal.returns-in-Read
-returns-in-Read c = first_top (drop c.args.i c.args.s.now) c.in-Read.v (drop c.in-Read.e c.args.s.now) (ap (result c.args.s.now) (sym c.in-Read.is) ∙ c.shape_top.ensures)
+returns-in-Read c = first_top (drop c.args.i c.args.s.now) c.in-Read.v (drop c.in-Read.e c.args.s.now) (ap (number_of c.args.s.now) (sym c.in-Read.is) ∙ c.shape_top.ensures)
 
 pub returns-in-Read-shape_scalar : goal.returns-in-Read-shape_scalar
-returns-in-Read-shape_scalar c = first_scalar (drop c.args.i c.args.s.now) (ap (result c.args.s.now) (sym c.in_default.is) ∙ c.shape_top.ensures) c.in-Read-shape_scalar.v (drop c.in-Read-shape_scalar.e c.args.s.now) (ap (result c.args.s.now) (sym c.in-Read-shape_scalar.is) ∙ c.shape_scalar.ensures)
+returns-in-Read-shape_scalar c = first_scalar (drop c.args.i c.args.s.now) (ap (number_of c.args.s.now) (sym c.in_default.is) ∙ c.shape_top.ensures) c.in-Read-shape_scalar.v (drop c.in-Read-shape_scalar.e c.args.s.now) (ap (number_of c.args.s.now) (sym c.in-Read-shape_scalar.is) ∙ c.shape_scalar.ensures)
 
 pub returns : goal.returns
-returns c = c.shape_flat.ensures ∙ first_flat (drop c.args.i c.args.s.now) (ap (result c.args.s.now) (sym c.in_default.is) ∙ c.shape_top.ensures) (ap (result c.args.s.now) (sym c.in_default-shape_scalar.is) ∙ c.shape_scalar.ensures)
+returns c = c.shape_flat.ensures ∙ first_flat (drop c.args.i c.args.s.now) (ap (number_of c.args.s.now) (sym c.in_default.is) ∙ c.shape_top.ensures) (ap (number_of c.args.s.now) (sym c.in_default-shape_scalar.is) ∙ c.shape_scalar.ensures)

@@ -1,0 +1,6 @@
+use mathlib.Core.Path.{◌∙◌}
+use borrow.Author.Rules.{rules}
+use Rattle.rules.proofs.wire_value.Goals as goal
+
+pub returns : goal.returns
+returns c = c.declared_value.ensures ∙ c.from_wire-shape.ensures
