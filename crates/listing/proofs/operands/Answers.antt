@@ -11,6 +11,7 @@ use Rattle.listing.specs.OpRead.{ReadTo, read_start, no_more, all_read, operand_
 use borrow.Author.Rules.{rules}
 use native.Mathlib.Omega.{arith}
 use Rattle.listing.proofs.operands.Goals as goal
+use Rattle.listing.proofs.operands.Goals.{else-loop-j-test, then-loop-j-test+then-m-eq0}
 
 pub loop-j-init : goal.loop-j-init
 loop-j-init c = (omega arith, read_start c.args.row c.args.s.now c.args.at _ nothing_stored)
@@ -37,6 +38,7 @@ loop-j-preserved c = (
 )
 
 pub returns : goal.returns
-returns c = ⊎_elim (λ w. all_read c.args.row c.args.s.now c.args.at (search rules) c.loop-j.i c.loop-j.j c.loop-j.vals c.loop-j.invariant.1 w.left c.full_row.result c.full_row.ensures.0 c.full_row.ensures.1 c.full_row.ensures.2 c.full_row.ensures.3)
-    (λ w. no_more c.args.row c.args.s.now c.args.at (search rules) c.loop-j.i c.loop-j.j c.loop-j.vals c.loop-j.invariant.1 (sym w.1.ensures ∙ w.2.taken) c.full_row.result c.full_row.ensures.0 c.full_row.ensures.1 c.full_row.ensures.2 c.full_row.ensures.3)
-    c.loop-j-test.branch
+returns c = elim c.loop-j-test.branch [
+    else-loop-j-test w ↦ all_read c.args.row c.args.s.now c.args.at (search rules) c.loop-j.i c.loop-j.j c.loop-j.vals c.loop-j.invariant.1 w.loop-j-test.false c.full_row.result c.full_row.ensures.0 c.full_row.ensures.1 c.full_row.ensures.2 c.full_row.ensures.3
+    | then-loop-j-test+then-m-eq0 w ↦ no_more c.args.row c.args.s.now c.args.at (search rules) c.loop-j.i c.loop-j.j c.loop-j.vals c.loop-j.invariant.1 (sym w.maximum-m.ensures ∙ w.if-m-eq0.true) c.full_row.result c.full_row.ensures.0 c.full_row.ensures.1 c.full_row.ensures.2 c.full_row.ensures.3
+    ]

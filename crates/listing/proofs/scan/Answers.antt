@@ -12,6 +12,7 @@ use Rattle.definition.specs.Format.{begins_with}
 use borrow.Author.Rules.{rules}
 use native.Mathlib.Omega.{arith}
 use Rattle.listing.proofs.scan.Goals as goal
+use Rattle.listing.proofs.scan.Goals.{else-loop-j-test, then-loop-j-test+then-c-eq10}
 
 pub loop-j-init : goal.loop-j-init
 loop-j-init c = sofar_start c.args.s.now (c.args.f * 16) _ nothing_stored
@@ -53,7 +54,5 @@ pub loop-j-preserved : goal.loop-j-preserved
 loop-j-preserved c = sofar_lost c.args.s.now (c.args.f * 16) c.loop-j.i c.loop-j.j c.loop-j.vals c.loop-j.n c.loop-j.invariant c.in-Read.v c.in-Read.next c.code_after-j.result (value_more c.args.s.now c.loop-j.i c.loop-j.j (omega arith) (λ x. c.if-c-eq10.false (c.format_at-c.ensures ∙ x)) (omega arith) (ap (λ (x : ℕ). shapes_over x (drop c.loop-j.i c.args.s.now)) (sym c.format_at-c.ensures) ∙ sym c.over.ensures ∙ c.if-over.false) c.in-Read.v c.in-Read.next (ap (number_of c.args.s.now) (sym c.in-Read.is) ∙ c.value.ensures ∙ ap (λ (x : ℕ). value_at x (drop c.loop-j.i c.args.s.now)) c.format_at-c.ensures) ∙ ap (λ (k : ℕ). joined (c.in-Read.v ∷ []) (left c.args.s.now c.in-Read.next k)) (ap (code_after c.loop-j.j) (sym c.format_at-c.ensures) ∙ sym c.code_after-j.ensures)) (omega arith)
 
 pub returns : goal.returns
-returns c = ⊎_elim
-    (λ w. sofar_done c.args.s.now (c.args.f * 16) c.loop-j.i c.loop-j.j c.loop-j.vals c.loop-j.n c.loop-j.invariant c.full_row.result c.full_row.ensures.0 c.full_row.ensures.1 c.full_row.ensures.2 c.full_row.ensures.3 (left_out c.args.s.now c.loop-j.i c.loop-j.j w.left))
-    (λ w. sofar_done c.args.s.now (c.args.f * 16) c.loop-j.i c.loop-j.j c.loop-j.vals c.loop-j.n c.loop-j.invariant c.full_row.result c.full_row.ensures.0 c.full_row.ensures.1 c.full_row.ensures.2 c.full_row.ensures.3 (left_end c.args.s.now c.loop-j.i c.loop-j.j w.0.taken (sym w.1.ensures ∙ w.2.taken)))
-    c.loop-j-test.branch
+returns c = elim c.loop-j-test.branch [ else-loop-j-test w ↦ sofar_done c.args.s.now (c.args.f * 16) c.loop-j.i c.loop-j.j c.loop-j.vals c.loop-j.n c.loop-j.invariant c.full_row.result c.full_row.ensures.0 c.full_row.ensures.1 c.full_row.ensures.2 c.full_row.ensures.3 (left_out c.args.s.now c.loop-j.i c.loop-j.j w.loop-j-test.false)
+    | then-loop-j-test+then-c-eq10 w ↦ sofar_done c.args.s.now (c.args.f * 16) c.loop-j.i c.loop-j.j c.loop-j.vals c.loop-j.n c.loop-j.invariant c.full_row.result c.full_row.ensures.0 c.full_row.ensures.1 c.full_row.ensures.2 c.full_row.ensures.3 (left_end c.args.s.now c.loop-j.i c.loop-j.j w.loop-j-test.true (sym w.format_at-c.ensures ∙ w.if-c-eq10.true)) ]
