@@ -1,0 +1,17 @@
+-- The first j letters are put. Assumes nothing.
+use Prim.Native.Nat.{ℕ, ◌≤◌, ◌-◌}
+use mathlib.Core.Path.{◌≡◌, ap}
+use mathlib.Core.Option.{some}
+use mathlib.Core.List.{[], ◌∷◌}
+use lib.ListN.{length, take}
+use Rattle.bytecode.specs.Names.{name_at}
+use Rattle.writer.specs.Put.{Put, put_same, copy_none, copy_more, copy_done}
+use borrow.Author.Rules.{rules}
+use native.Mathlib.Omega.{arith}
+use Rattle.writer.proofs.put_name.Given as goal
+
+abbrev pub invariant-loop-j : goal.invariant-loop-j
+invariant-loop-j l = (l.j ≤ length (name_at l.row)) × (length l.out ≡ length l.initial.out) × Put l.initial.out l.at (some (take l.j (name_at l.row))) l.out l.next
+
+abbrev pub decreases-loop-j : goal.decreases-loop-j
+decreases-loop-j l = length (name_at l.row) - l.j
