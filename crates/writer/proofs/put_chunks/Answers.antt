@@ -41,7 +41,7 @@ pub loop-k-smaller : goal.loop-k-smaller
 loop-k-smaller c = omega (arith, c.count-n.ensures)
 
 pub loop-k-preserved : goal.loop-k-preserved
-loop-k-preserved c = (omega (arith, c.count-n.ensures), omega (arith, c.count-n.ensures, count_low c.args.t.now 7, cap_chunks, c.loop-k.invariant.1, c.loop-k.invariant.2, c.constants_of-a.ensures.within, cap_constants, c.wide-constants.ensures), omega (arith, c.count-n.ensures, count_low c.args.t.now 7, cap_chunks, c.loop-k.invariant.1, c.loop-k.invariant.2, c.instructions_of-b.ensures.within, cap_instructions, c.wide-instructions.ensures), omega (arith, c.loop-k.invariant.3, c.put_chunk-next.auto.1.1.1.1.0), putting_more c.loop-k.invariant.4 (chunks_more c.args.t.now (count c.args.t.now 7) c.loop-k.k c.loop-k.constants c.loop-k.instructions _ _ (omega (arith, c.count-n.ensures)) (sym c.if-chunk_follows.true ∙ c.chunk_follows.ensures) (omega (arith, c.wide-constants.ensures, c.constants_of-a.ensures.count_is)) (omega (arith, c.wide-instructions.ensures, c.instructions_of-b.ensures.count_is))) c.put_chunk-next.ensures)
+loop-k-preserved c = (omega (arith, c.count-n.ensures), omega (arith, c.count-n.ensures, count_low c.args.t.now 7, cap_chunks, c.loop-k.invariant.1, c.loop-k.invariant.2, c.constants_of-a.ensures.within, cap_constants, c.wide-constants.ensures), omega (arith, c.count-n.ensures, count_low c.args.t.now 7, cap_chunks, c.loop-k.invariant.1, c.loop-k.invariant.2, c.instructions_of-b.ensures.within, cap_instructions, c.wide-instructions.ensures), omega (arith, c.loop-k.invariant.3, c.put_chunk-next.auto.out), putting_more c.loop-k.invariant.4 (chunks_more c.args.t.now (count c.args.t.now 7) c.loop-k.k c.loop-k.constants c.loop-k.instructions _ _ (omega (arith, c.count-n.ensures)) (sym c.if-chunk_follows.true ∙ c.chunk_follows.ensures) (omega (arith, c.wide-constants.ensures, c.constants_of-a.ensures.count_is)) (omega (arith, c.wide-instructions.ensures, c.instructions_of-b.ensures.count_is))) c.put_chunk-next.ensures)
 
 pub shape_of-out-else-chunk_follows : goal.shape_of-out-else-chunk_follows
 shape_of-out-else-chunk_follows c = c.loop-k.invariant.3
@@ -53,7 +53,7 @@ pub put_close-requires : goal.put_close-requires
 put_close-requires c = (putting_low c.loop-k.invariant.4, c.requires.1)
 
 pub shape_of-out-then-all_used : goal.shape_of-out-then-all_used
-shape_of-out-then-all_used c = omega (arith, c.loop-k.invariant.3, c.put_close.auto.1.1.0)
+shape_of-out-then-all_used c = omega (arith, c.loop-k.invariant.3, c.put_close.auto.out)
 
 pub returns-then-all_used : goal.returns-then-all_used
 returns-then-all_used c = putting_last c.loop-k.invariant.4 (chunks_end c.args.t.now (count c.args.t.now 7) c.loop-k.k c.loop-k.constants c.loop-k.instructions (omega (arith, c.count-n.ensures)) (sym c.if-all_used.true ∙ c.all_used.ensures)) c.put_close.ensures

@@ -13,7 +13,7 @@ pub loop-j-init : goal.loop-j-init
 loop-j-init c = (omega arith, omega arith, search rules, putting_start c.args.out.now c.args.at (left (c.args.f * 16) c.args.words.now) c.requires.1)
 
 pub loop-j-preserved-then-c-lt-BITS_8 : goal.loop-j-preserved-then-c-lt-BITS_8
-loop-j-preserved-then-c-lt-BITS_8 c = (omega arith, c.loop-j.invariant.1, omega (arith, c.loop-j.invariant.2, c.put_byte-next.auto.0), putting_more c.loop-j.invariant.3 (left_byte c.loop-j.j c.format_at-c.result c.loop-j-test.true c.format_at-c.ensures c.if-c-eq10.false (drop c.loop-j.i c.args.words.now) c.if-c-lt-BITS_8.true) c.put_byte-next.ensures)
+loop-j-preserved-then-c-lt-BITS_8 c = (omega arith, c.loop-j.invariant.1, omega (arith, c.loop-j.invariant.2, c.put_byte-next.auto.out), putting_more c.loop-j.invariant.3 (left_byte c.loop-j.j c.format_at-c.result c.loop-j-test.true c.format_at-c.ensures c.if-c-eq10.false (drop c.loop-j.i c.args.words.now) c.if-c-lt-BITS_8.true) c.put_byte-next.ensures)
 
 pub put_value-next-requires : goal.put_value-next-requires
 put_value-next-requires c = putting_low c.loop-j.invariant.3
@@ -22,7 +22,7 @@ pub loop-j-smaller-then-i-words : goal.loop-j-smaller-then-i-words
 loop-j-smaller-then-i-words c = omega (arith, c.code_after-j.ensures, after_low c.loop-j.j c.format_at-c.result)
 
 pub loop-j-preserved-then-i-words : goal.loop-j-preserved-then-i-words
-loop-j-preserved-then-i-words c = (omega (arith, c.code_after-j.ensures, after_low c.loop-j.j c.format_at-c.result), omega arith, omega (arith, c.loop-j.invariant.2, c.put_value-next.auto.0), putting_same (putting_more c.loop-j.invariant.3 (left_value c.loop-j.j c.format_at-c.result c.loop-j-test.true c.format_at-c.ensures c.if-c-eq10.false c.if-c-lt-BITS_8.false c.args.words.now c.loop-j.i c.if-i-words.true) c.put_value-next.ensures) (ap (λ (k : ℕ). left k (drop (c.loop-j.i + 1) c.args.words.now)) (sym c.code_after-j.ensures)))
+loop-j-preserved-then-i-words c = (omega (arith, c.code_after-j.ensures, after_low c.loop-j.j c.format_at-c.result), omega arith, omega (arith, c.loop-j.invariant.2, c.put_value-next.auto.out), putting_same (putting_more c.loop-j.invariant.3 (left_value c.loop-j.j c.format_at-c.result c.loop-j-test.true c.format_at-c.ensures c.if-c-eq10.false c.if-c-lt-BITS_8.false c.args.words.now c.loop-j.i c.if-i-words.true) c.put_value-next.ensures) (ap (λ (k : ℕ). left k (drop (c.loop-j.i + 1) c.args.words.now)) (sym c.code_after-j.ensures)))
 
 pub shape_of-out-then-c : goal.shape_of-out-then-c
 shape_of-out-then-c c = c.loop-j.invariant.2

@@ -23,7 +23,7 @@ pub loop-j-smaller : goal.loop-j-smaller
 loop-j-smaller c = omega (arith, c.name_length-n.ensures)
 
 pub loop-j-preserved : goal.loop-j-preserved
-loop-j-preserved c = (omega (arith, c.name_length-n.ensures), omega (arith, c.loop-j.invariant.1, c.put_byte-next.auto.0), copy_more (name_at c.args.row) c.loop-j.j (omega (arith, c.name_length-n.ensures)) c.loop-j.invariant.2 (put_same (ap (λ (b : ℕ). some (b ∷ [])) c.name_letter.ensures) c.put_byte-next.ensures))
+loop-j-preserved c = (omega (arith, c.name_length-n.ensures), omega (arith, c.loop-j.invariant.1, c.put_byte-next.auto.out), copy_more (name_at c.args.row) c.loop-j.j (omega (arith, c.name_length-n.ensures)) c.loop-j.invariant.2 (put_same (ap (λ (b : ℕ). some (b ∷ [])) c.name_letter.ensures) c.put_byte-next.ensures))
 
 pub shape_of-out : goal.shape_of-out
 shape_of-out c = c.loop-j.invariant.1

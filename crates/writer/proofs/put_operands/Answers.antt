@@ -25,7 +25,7 @@ pub returns-then-names_lacking : goal.returns-then-names_lacking
 returns-then-names_lacking c = put_same (operands_whole c.args.float c.args.row c.args.words.now) (putting_lost c.loop-j.invariant.2 ((operands_more c.args.float c.args.row c.args.words.now c.loop-j.j c.maximum-most.result c.maximum-most.ensures c.if-most-eq0.false) ∙ lost-first _ _ (operand_lacking c.args.float c.maximum-most.result (get_or c.args.words.now c.loop-j.j 0) c.names_lacking.result c.names_lacking.ensures c.if-names_lacking.true)))
 
 pub loop-j-preserved : goal.loop-j-preserved
-loop-j-preserved c = (omega arith, omega (arith, c.loop-j.invariant.1, c.put_number-next.auto.0), putting_more c.loop-j.invariant.2 (operands_more c.args.float c.args.row c.args.words.now c.loop-j.j c.maximum-most.result c.maximum-most.ensures c.if-most-eq0.false) (put_same (operand_known c.args.float c.maximum-most.result (get_or c.args.words.now c.loop-j.j 0) c.maximum_code.result c.names_lacking.result c.names_lacking.ensures c.if-names_lacking.false c.maximum_code.ensures) c.put_number-next.ensures))
+loop-j-preserved c = (omega arith, omega (arith, c.loop-j.invariant.1, c.put_number-next.auto.out), putting_more c.loop-j.invariant.2 (operands_more c.args.float c.args.row c.args.words.now c.loop-j.j c.maximum-most.result c.maximum-most.ensures c.if-most-eq0.false) (put_same (operand_known c.args.float c.maximum-most.result (get_or c.args.words.now c.loop-j.j 0) c.maximum_code.result c.names_lacking.result c.names_lacking.ensures c.if-names_lacking.false c.maximum_code.ensures) c.put_number-next.ensures))
 
 pub shape_of-out-after-loop-j : goal.shape_of-out-after-loop-j
 shape_of-out-after-loop-j c = c.loop-j.invariant.1

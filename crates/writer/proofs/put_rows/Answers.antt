@@ -19,7 +19,7 @@ pub put_entry-next-requires : goal.put_entry-next-requires
 put_entry-next-requires c = (c.requires.0, omega (arith, c.requires.1), putting_low c.loop-i.invariant.2, c.requires.3, c.requires.4, c.requires.5)
 
 pub loop-i-preserved : goal.loop-i-preserved
-loop-i-preserved c = (omega arith, omega (arith, c.loop-i.invariant.1, c.put_entry-next.auto.1.1.1.1.1.0), putting_more c.loop-i.invariant.2 (rows_more c.args.t.now c.args.k c.args.first c.args.n c.loop-i.i c.loop-i-test.true) c.put_entry-next.ensures)
+loop-i-preserved c = (omega arith, omega (arith, c.loop-i.invariant.1, c.put_entry-next.auto.out), putting_more c.loop-i.invariant.2 (rows_more c.args.t.now c.args.k c.args.first c.args.n c.loop-i.i c.loop-i-test.true) c.put_entry-next.ensures)
 
 pub shape_of-out : goal.shape_of-out
 shape_of-out c = c.loop-i.invariant.1

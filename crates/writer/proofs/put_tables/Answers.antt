@@ -20,7 +20,7 @@ pub put_rows-next-requires : goal.put_rows-next-requires
 put_rows-next-requires c = (omega arith, omega (arith, c.count-n.ensures, count_low c.args.t.now c.loop-k.k), putting_low c.loop-k.invariant.2, c.requires.1, c.requires.2, c.requires.3)
 
 pub loop-k-preserved : goal.loop-k-preserved
-loop-k-preserved c = (omega arith, omega (arith, c.loop-k.invariant.1, c.put_rows-next.auto.1.1.1.1.1.1.0), putting_more c.loop-k.invariant.2 (tables_more c.args.t.now c.loop-k.k c.count-n.result c.loop-k-test.true c.count-n.ensures) c.put_rows-next.ensures)
+loop-k-preserved c = (omega arith, omega (arith, c.loop-k.invariant.1, c.put_rows-next.auto.out), putting_more c.loop-k.invariant.2 (tables_more c.args.t.now c.loop-k.k c.count-n.result c.loop-k-test.true c.count-n.ensures) c.put_rows-next.ensures)
 
 pub shape_of-out : goal.shape_of-out
 shape_of-out c = c.loop-k.invariant.1

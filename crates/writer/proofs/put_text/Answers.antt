@@ -12,7 +12,7 @@ pub loop-i-init : goal.loop-i-init
 loop-i-init c = (omega arith, search rules, copy_none c.args.out.now c.args.at c.args.text.now c.requires)
 
 pub loop-i-preserved : goal.loop-i-preserved
-loop-i-preserved c = (omega arith, omega (arith, c.loop-i.invariant.1, c.put_byte-next.auto.0), copy_more c.args.text.now c.loop-i.i c.loop-i-test.true c.loop-i.invariant.2 c.put_byte-next.ensures)
+loop-i-preserved c = (omega arith, omega (arith, c.loop-i.invariant.1, c.put_byte-next.auto.out), copy_more c.args.text.now c.loop-i.i c.loop-i-test.true c.loop-i.invariant.2 c.put_byte-next.ensures)
 
 pub shape_of-out : goal.shape_of-out
 shape_of-out c = c.loop-i.invariant.1
