@@ -22,7 +22,7 @@ use bytecode::code;
 use rules::Ctx;
 
 // The walk of the instructions from start to before end. A path that comes to the end falls through.
-#[cycle(block_at_if_at_interp_region_last_pass_loop_at_one_arm_passes_at_two_arms)]
+#[cycle(walkers)]
 fn interp_region(
     t: &[u64],
     heights: &mut [u8],
@@ -99,7 +99,7 @@ fn interp_region(
 }
 
 // The instruction at ip that does not simply lead onward, with the blocks that it opens.
-#[cycle(block_at_if_at_interp_region_last_pass_loop_at_one_arm_passes_at_two_arms)]
+#[cycle(walkers)]
 fn block_at(
     t: &[u64],
     heights: &mut [u8],
@@ -145,7 +145,7 @@ fn block_at(
 }
 
 // An If: its condition, then its arms.
-#[cycle(block_at_if_at_interp_region_last_pass_loop_at_one_arm_passes_at_two_arms)]
+#[cycle(walkers)]
 fn if_at(
     t: &[u64],
     heights: &mut [u8],
@@ -214,7 +214,7 @@ fn if_at(
 }
 
 // The arm of an If without Else, joined with the state that passes it by.
-#[cycle(block_at_if_at_interp_region_last_pass_loop_at_one_arm_passes_at_two_arms)]
+#[cycle(walkers)]
 fn one_arm(
     t: &[u64],
     heights: &mut [u8],
@@ -274,7 +274,7 @@ fn one_arm(
 }
 
 // The arms of an If with an Else, whose EndIf is the closer; the breaks of the first go on into the second.
-#[cycle(block_at_if_at_interp_region_last_pass_loop_at_one_arm_passes_at_two_arms)]
+#[cycle(walkers)]
 fn two_arms(
     t: &[u64],
     heights: &mut [u8],
@@ -357,7 +357,7 @@ fn two_arms(
 }
 
 // The loop at ip: examined without a test, then the passes over its body, with breaks of its own.
-#[cycle(block_at_if_at_interp_region_last_pass_loop_at_one_arm_passes_at_two_arms)]
+#[cycle(walkers)]
 fn loop_at(
     t: &[u64],
     heights: &mut [u8],
@@ -390,7 +390,7 @@ fn loop_at(
 }
 
 // The passes over the body of the loop at ip: the head is stable, the body has no end, or the last pass is made.
-#[cycle(block_at_if_at_interp_region_last_pass_loop_at_one_arm_passes_at_two_arms)]
+#[cycle(walkers)]
 fn passes_at(
     t: &[u64],
     heights: &mut [u8],
@@ -461,7 +461,7 @@ fn passes_at(
 }
 
 // The last pass over the body of the loop at ip, from a head in which each local that the body writes is forgotten first.
-#[cycle(block_at_if_at_interp_region_last_pass_loop_at_one_arm_passes_at_two_arms)]
+#[cycle(walkers)]
 pub fn last_pass(
     t: &[u64],
     heights: &mut [u8],
