@@ -1,0 +1,6 @@
+use Rattle.stagecheck_c.proofs.Laws.{given_all, sound_all}
+use borrow.Author.Rules.{rules}
+use Rattle.stagecheck_c.proofs.stagecheck_check_in.Goals as goal
+
+pub returns : goal.returns
+returns c = record { given = given_all _ c.check_into-a.result c.numbers-n.result _ _ _ c.check_into-a.ensures.blinds_after c.numbers-n.ensures c.give.ensures; sound = sound_all _ _ c.check_into-a.result _ _ c.check_into-a.ensures.blinds_after c.check_into-a.ensures.sound.0 }
