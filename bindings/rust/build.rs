@@ -1,4 +1,4 @@
-//! Finds the static library: in the folder that STAGECHECK_LIB_DIR names, or where `rt staticlib stagecheck_c` puts it.
+//! Finds the static library: in the folder that STAGECHECK_LIB_DIR names, or where `tools/build library` puts it.
 
 use std::path::{Path, PathBuf};
 
@@ -20,6 +20,6 @@ fn main() {
             return;
         }
     }
-    let way = "set STAGECHECK_LIB_DIR to PREFIX/lib, or run `rt staticlib stagecheck_c`";
+    let way = "set STAGECHECK_LIB_DIR to PREFIX/lib, or run `tools/build library`";
     println!("cargo::error=no libstagecheck.a and no libstagecheck_c.a in {}: {way}", folder.display());
 }
