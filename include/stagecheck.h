@@ -2,8 +2,7 @@
  *
  * Link: `cc prog.c -lstagecheck` after `./install PREFIX` (with -I PREFIX/include -L PREFIX/lib, or with what
  * `pkg-config --cflags --libs stagecheck` gives), or `cc -I include prog.c target/staticlib/libstagecheck_c.a` in the
- * repository. The library needs memcpy and memset and nothing else. It is built and tested for x86-64
- * Linux alone.
+ * repository. The library needs memcpy and memset and nothing else. It is built and tested for x86-64 Linux alone.
  *
  * Two functions check a listing; they differ in where the tables are. One reads a listing into tables, and one writes
  * what tables hold back as a listing. Four turn a listing or an answer into words. All of them allocate nothing, read
