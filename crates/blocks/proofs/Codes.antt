@@ -1,26 +1,19 @@
 -- What an instruction is, by its code: where it leads, and which local it writes. Each is one test that is computed over all codes.
-use mathlib.Core.Path.{◌≡◌, refl, sym, ap, ◌∙◌, subst}
-use mathlib.Core.Logic.{◌≢◌, ◌⊎◌, inl, inr}
+use mathlib.Core.Path.{◌≡◌, refl, sym, ap}
+use mathlib.Core.Logic.{◌≢◌}
 use mathlib.Core.Bool.{Bool, true, false, ◌||◌}
 use mathlib.Core.Option.{Option, none, some}
-use mathlib.Core.List.{List, [], ◌∷◌}
-use Prim.Native.Nat.{ℕ, zero, suc, ◌+◌, ◌-◌, ◌≤◌, ◌<◌}
-use native.Mathlib.Omega.{arith}
-use native.Mathlib.Decide.{dec_lt}
-use borrow.Author.Tests.{lt-ltb, ne_eqb, eqb-true}
-use lib.Dec.{T, eqb, ltb}
-use lib.ListN.{get_or, get_elem?, length}
-use Rattle.definition.specs.Instructions.{Instr as AnyInstr, Chunk, Control, onward, stops, returns, resets, end_if, end_loop, ends, if_to, else_to, loop_to}
-use Rattle.definition.specs.Instructions.{break_to, break_if_to, jump_control, control, instr_at, control_at, control_of}
-use Rattle.definition.specs.Ops.{Op, ops, row, instr, instr_of, make_at}
+use mathlib.Core.List.{[], ◌∷◌}
+use Prim.Native.Nat.{ℕ, ◌<◌}
+use borrow.Author.Tests.{ne_eqb}
+use lib.Dec.{T, eqb}
+use Rattle.definition.specs.Instructions.{Instr as AnyInstr}
+use Rattle.definition.specs.Ops.{ops, row, instr, instr_of, make_at}
 use Rattle.definition.specs.Effects.{set_local}
 use Rattle.theorems.specs.Cover.{no_false}
 use Rattle.bytecode.specs.Tables.{all_below, at_each}
-use Rattle.bytecode.specs.Meaning.{chunk_of, first_op, op_count, table_instr_at, code_some, code_none}
-use Rattle.bytecode.specs.Parts.{any_instr_of, InstrIs}
+use Rattle.bytecode.specs.Parts.{any_instr_of}
 use Rattle.bytecode.specs.declared.Instr.{Instr}
-use Rattle.stretch.specs.Stretch.{leads}
-use Rattle.stretch.specs.Stretch.{straight}
 
 abbrev op : ℕ → ℕ → ℕ → ℕ → AnyInstr
 op k a b c = instr (record { code = k; operands = a ∷ b ∷ c ∷ [] })

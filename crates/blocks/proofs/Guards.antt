@@ -1,25 +1,24 @@
 -- If, BreakIf and Trap: what they are examined for is the height alone.
 use mathlib.Core.Path.{◌≡◌, refl, sym, ap, subst, ◌∙◌}
 use mathlib.Core.Bool.{Bool, true, false}
-use mathlib.Core.Option.{Option, none, some}
-use mathlib.Core.List.{List, [], ◌∷◌}
-use Prim.Native.Nat.{ℕ, suc, ◌+◌, ◌-◌, ◌≤◌, ◌<◌}
+use mathlib.Core.Option.{Option, none}
+use mathlib.Core.List.{List}
+use Prim.Native.Nat.{ℕ, ◌-◌, ◌≤◌}
 use native.Mathlib.Omega.{arith}
 use borrow.Author.Tests.{le-leb}
-use lib.ListN.{set, length, drop, length-drop}
+use lib.ListN.{length, drop, length-drop}
 use Rattle.definition.specs.Basics.{first, pass, unless}
-use Rattle.definition.specs.Shapes.{Shape as AnyShape}
 use Rattle.definition.specs.Instructions.{Instr as AnyInstr, Jump, Chunk, Control, onward, stops, returns, resets, end_if, end_loop, ends, if_to, else_to, loop_to}
 use Rattle.definition.specs.Instructions.{break_to, break_if_to, control, jump_control}
 use Rattle.definition.specs.Effects.{need, takes, pushes, set_local, write, jump_need}
-use Rattle.definition.specs.Tests.{no_flat, is_blind, reading, reading_test, other_tests}
-use Rattle.definition.specs.Walk.{State as AnyState, height, after, mark, mark_blind, examine, floor_test, need_test, height_test}
+use Rattle.definition.specs.Tests.{is_blind, reading, reading_test, other_tests}
+use Rattle.definition.specs.Walk.{State as AnyState, height, after, mark_blind, examine, floor_test, need_test, height_test}
 use Rattle.theorems.specs.Cover.{no_false}
 use Rattle.frame.specs.declared.State.{State}
 use Rattle.frame.specs.Model.{state_of, stack_of, popped}
 use Rattle.frame.proofs.Stores.{pop_law}
 use Rattle.bytecode.specs.Meaning.{first_op}
-use Rattle.answer.specs.Answer.{is_none, refusal, fields}
+use Rattle.answer.specs.Answer.{is_none, refusal}
 use Rattle.rules.specs.Rules.{own_tests}
 use Rattle.answer.specs.declared.Verdict.{Verdict}
 use Rattle.blocks.specs.Visits.{StepIn}

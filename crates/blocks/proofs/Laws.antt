@@ -25,27 +25,25 @@ use Rattle.blocks.specs.Visits.{chunk_in, instr_in, mark_in}
 use Rattle.stretch.specs.Stretch.{leads}
 use Rattle.stretch.specs.Stretch.{sheets_of}
 use Rattle.stretch.proofs.Codes.{leads_low}
-use Rattle.definition.specs.Basics.{Result, ok, refused, ◌>>=◌}
+use Rattle.definition.specs.Basics.{ok, refused, ◌>>=◌}
 use Rattle.definition.specs.Shapes.{same_shapes}
-use Rattle.definition.specs.Walk.{State as AnyState, Sheets, Walked, Left as AnyLeft, Breaks as AnyBreaks, no_break, joined, unequal, height, join_states}
+use Rattle.definition.specs.Walk.{State as AnyState, Sheets, joined, unequal, height, join_states}
 use Rattle.definition.specs.Walk.{add_joined, add_break, join_tested, join_ends, leave, neutral, last_end}
 use Rattle.frame.specs.declared.State.{State}
 use Rattle.frame.specs.Model.{state_of, stack_of, locals_of}
 use Rattle.shapes.proofs.Lists.{down-length}
-use Rattle.blocks.specs.Outcomes.{numbers, pending_of, breaks_of, flow_of, walked_of, leaving_of, left_of, fall_of, meets, after_last, Open}
+use Rattle.blocks.specs.Outcomes.{numbers, pending_of, breaks_of, flow_of, walked_of, fall_of, meets, after_last, Open}
 use Rattle.rules.specs.Answers.{values_of}
 use Rattle.answer.specs.Answer.{refusal, fields}
 use Rattle.answer.specs.declared.Verdict.{Verdict}
 use Rattle.answer.specs.declared.Verdict.TheVariants.{Refused as Fault}
-use Rattle.answer.specs.declared.Refusal.TheVariants.{BranchHeightMismatch, LoopNotNeutral}
+use Rattle.answer.specs.declared.Refusal.TheVariants.{BranchHeightMismatch}
 use Rattle.blocks.specs.declared.Flow.{Flow}
 use Rattle.blocks.specs.declared.Flow.TheVariants.{Refused, Ended, Falls}
-use Rattle.blocks.specs.declared.Leaving.TheVariants.{Stopped, After}
 use Rattle.blocks.specs.declared.Pending.{Pending}
 use Rattle.blocks.specs.declared.Pending.TheVariants.{Nothing, Joined, Unequal}
 use Rattle.blocks.specs.Outcomes.{BreaksIn}
 use Rattle.blocks.specs.Outcomes.{OutcomeIn}
-use Rattle.blocks.specs.Outcomes.{LeftIn}
 
 -- ── Breaks ────────────────────────────────────────────────────────────────────────────────
 

@@ -1,35 +1,18 @@
 -- The locals in which a walk begins.
-use mathlib.Core.Path.{◌≡◌, refl, sym, ap, ◌∙◌, subst}
-use mathlib.Core.Bool.{Bool, true, false}
-use mathlib.Core.Option.{Option, none, some}
+use mathlib.Core.Path.{◌≡◌, refl, sym, ap, ◌∙◌}
 use mathlib.Core.List.{List, [], ◌∷◌, map}
-use mathlib.Core.Logic.{⊎_elim}
-use Prim.Native.Nat.{ℕ, zero, suc, ◌+◌, ◌-◌, ◌≤◌, ◌<◌}
+use Prim.Native.Nat.{ℕ, zero, suc, ◌+◌, ◌≤◌, ◌<◌}
 use native.Mathlib.Omega.{arith}
-use lib.ListN.{length, get_or, set, replicate}
-use Rattle.definition.specs.Basics.{Result, ok, refused, ◌>>=◌}
+use lib.ListN.{get_or, set, replicate}
 use Rattle.definition.specs.Shapes.{Shape, unknown, from_wire}
-use Rattle.definition.specs.Instructions.{Chunk, Sig}
+use Rattle.definition.specs.Instructions.{Sig}
 use Rattle.definition.specs.Module.{no_sig}
-use Rattle.definition.specs.Walk.{State as AnyState, Sheets, Walked, no_break, params, start_locals, start, walk_chunk}
-use Rattle.definition.specs.Check.{in_chunk, walk_all}
-use Rattle.theorems.specs.Nested.{whole}
-use Rattle.theorems.specs.Fuel.{full, chunk_full}
+use Rattle.definition.specs.Walk.{params, start_locals}
 use Rattle.frame.specs.declared.State.{State}
-use Rattle.frame.specs.Model.{state_of, stack_of, locals_of, with_local}
-use Rattle.bytecode.specs.Lists.{tabulate}
-use Rattle.bytecode.specs.Meaning.{chunk_of, table_chunks, count, known_sigs, locals_at, locals_low, first_op, op_count, code_length, chunk_sig, chunk_locals}
+use Rattle.frame.specs.Model.{state_of, with_local}
+use Rattle.bytecode.specs.Meaning.{known_sigs, chunk_sig}
 use Rattle.rules.specs.declared.Ctx.{Ctx}
-use Rattle.rules.specs.Answers.{Of}
-use Rattle.blocks.specs.Outcomes.{numbers, pending_of, breaks_of, flow_of, walked_of, Open}
-use Rattle.blocks.specs.Visits.{Placed, chunk_in}
-use Rattle.stretch.specs.Stretch.{sheets_of}
-use Rattle.answer.specs.declared.Verdict.{Verdict}
-use Rattle.blocks.specs.declared.Flow.{Flow}
-use Rattle.blocks.specs.declared.Flow.TheVariants.{Refused, Ended, Falls}
-use Rattle.blocks.specs.declared.Pending.TheVariants.{Nothing}
-use Rattle.blocks.specs.Outcomes.{BreaksIn}
-use Rattle.blocks.specs.Outcomes.{OutcomeIn}
+use Rattle.blocks.specs.Visits.{chunk_in}
 
 -- ── Locals ────────────────────────────────────────────────────────────────────────────────
 

@@ -1,41 +1,36 @@
 -- One instruction of a walk, by where it leads: what the definition's walk is there, from what its examination gave.
 use mathlib.Core.Path.{◌≡◌, refl, sym, ap, ◌∙◌, subst}
-use mathlib.Core.Logic.{◌≢◌, ◌⊎◌, inl, inr, ⊎_elim}
+use mathlib.Core.Logic.{◌≢◌}
 use mathlib.Core.Bool.{Bool, true, false, ◌||◌}
-use mathlib.Core.Option.{Option, none, some}
+use mathlib.Core.Option.{none}
 use mathlib.Core.List.{List, [], ◌∷◌}
 use Prim.Native.Nat.{ℕ, zero, suc, ◌+◌, ◌-◌, ◌≤◌, ◌<◌}
 use native.Mathlib.Omega.{arith}
-use lib.ListN.{set, length}
+use lib.ListN.{set}
 use lib.Dec.{eqb, ltb}
 use borrow.Author.Tests.{ltb-false}
-use Rattle.definition.specs.Basics.{Result, ok, refused, ◌>>=◌, pass}
-use Rattle.definition.specs.Instructions.{Instr as AnyInstr, Chunk, Control, onward, stops, returns, resets, end_if, end_loop, ends, if_to, else_to, loop_to}
+use Rattle.definition.specs.Basics.{Result, ok, refused, ◌>>=◌}
+use Rattle.definition.specs.Instructions.{Instr as AnyInstr, Chunk, Control, stops, returns, if_to}
 use Rattle.definition.specs.Instructions.{break_to, break_if_to, control}
-use Rattle.definition.specs.Tests.{no_flat, is_blind, reading}
+use Rattle.definition.specs.Tests.{is_blind}
 use Rattle.definition.specs.Nesting.{else_at}
-use Rattle.definition.specs.Walk.{State as AnyState, Sheets, Walked, Walker, Breaks as AnyBreaks, no_break, height, mark, mark_blind, add_break, examine}
-use Rattle.definition.specs.Walk.{walk_arms, passes, forget, walk_instr}
+use Rattle.definition.specs.Walk.{State as AnyState, Sheets, Walker, Breaks as AnyBreaks, height, mark, mark_blind, add_break, examine}
+use Rattle.definition.specs.Walk.{walk_arms, walk_instr}
 use Rattle.theorems.specs.Facts.{is_quiet, quiet}
 use Rattle.theorems.specs.Cover.{no_false}
 use Rattle.theorems.specs.Fuel.{full}
 use Rattle.frame.specs.declared.State.{State}
-use Rattle.frame.specs.Model.{state_of, stack_of}
+use Rattle.frame.specs.Model.{state_of}
 use Rattle.bytecode.specs.Meaning.{first_op, chunk_base}
-use Rattle.blocks.specs.Outcomes.{numbers, breaks_of, onward_of, rest_of, loop_of, after_loop}
+use Rattle.blocks.specs.Outcomes.{numbers, breaks_of, onward_of, rest_of}
 use Rattle.rules.specs.Answers.{values_of}
 use Rattle.answer.specs.Answer.{is_none, refusal, fields}
-use Rattle.rules.specs.Answers.{result_of}
-use Rattle.bytecode.specs.Parts.{InstrIs}
-use Rattle.bytecode.specs.declared.Instr.{Instr}
 use Rattle.blocks.specs.Visits.{chunk_in, instr_in, Examined, mark_in, visit_in, Quietly}
 use Rattle.stretch.specs.Stretch.{leads}
 use Rattle.stretch.specs.Stretch.{sheets_of, straight}
 use Rattle.stretch.proofs.Laws.{Tested, passed_is, refused_is, instr_refused}
-use Rattle.answer.specs.declared.Verdict.{Verdict}
 use Rattle.answer.specs.declared.Verdict.TheVariants.{Refused as Fault}
 use Rattle.answer.specs.declared.Refusal.TheVariants.{NotNested}
-use Rattle.blocks.specs.declared.Flow.{Flow}
 use Rattle.blocks.specs.declared.Flow.TheVariants.{Refused, Ended, Falls}
 use Rattle.blocks.specs.Visits.{StepIn}
 use Rattle.blocks.specs.Outcomes.{BreaksIn}

@@ -1,7 +1,7 @@
 -- What the walk's own types mean: 01's number and values of each refusal, and the definition's results. The code keeps the states in lent arrays beside its values; here a
 -- value is taken together with its states.
 use Rattle.std.proofs.Math.Option.{Option, none, some}
-use Rattle.std.specs.Prelude.{List, [], ◌∷◌, ℕ, suc, ◌+◌, ◌-◌, ◌≤◌}
+use Rattle.std.specs.Prelude.{List, ℕ, suc, ◌+◌, ◌-◌, ◌≤◌}
 use Rattle.definition.specs.Basics.{Result, ok, refused, ◌>>=◌}
 use Rattle.definition.specs.Instructions.{Chunk}
 use Rattle.definition.specs.Walk.{State as AnyState, Sheets, Walked, Left as AnyLeft, Breaks as AnyBreaks, no_break, joined, unequal, height, join_ends, last_end, passes, forget}

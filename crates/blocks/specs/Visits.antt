@@ -1,5 +1,5 @@
 -- The visit of one instruction, and what the code asks for it and knows of it.
-use Rattle.std.specs.Prelude.{◌≡◌, ◌≢◌, Bool, List, ℕ, suc, ◌+◌, ◌≤◌, ◌<◌, length, set}
+use Rattle.std.specs.Prelude.{◌≡◌, ◌≢◌, Bool, List, ℕ, suc, ◌+◌, ◌≤◌, length, set}
 use Rattle.std.proofs.Math.Option.{none}
 use Rattle.definition.specs.Instructions.{Chunk, Instr as AnyInstr, Control}
 use Rattle.definition.specs.Tests.{is_blind, reading}
@@ -12,7 +12,7 @@ use Rattle.frame.specs.declared.State.{State}
 use Rattle.frame.specs.Model.{state_of, stack_of}
 use Rattle.rules.specs.declared.Ctx.{Ctx}
 use Rattle.answer.specs.declared.Verdict.{Verdict}
-use Rattle.answer.specs.Answer.{refusal, fields}
+use Rattle.answer.specs.Answer.{refusal}
 use Rattle.rules.specs.Answers.{Of, result_of}
 use Rattle.blocks.specs.declared.Onward.{Onward}
 use Rattle.blocks.specs.declared.Flow.TheVariants.{Ended}

@@ -1,23 +1,22 @@
 -- Laws of the accessors, on plain variables.
-use mathlib.Core.Path.{◌≡◌, refl, sym, ap, ◌∙◌, subst}
+use mathlib.Core.Path.{◌≡◌, refl, sym, ap, ◌∙◌}
 use mathlib.Core.Bool.{Bool, true, false}
-use mathlib.Core.Option.{Option, none, some}
-use mathlib.Core.List.{List, [], ◌∷◌, map}
+use mathlib.Core.Option.{none, some}
+use mathlib.Core.List.{List, ◌∷◌, map}
 use Prim.Native.Nat.{ℕ, zero, suc, ◌+◌, ◌-◌, ◌*◌, ◌/◌, ◌%◌, ◌^◌, ◌≤◌, ◌<◌}
 use native.Mathlib.Omega.{arith}
 use native.Mathlib.Decide.{dec_lt}
 use native.Mathlib.Nat.{zero-add}
 use native.Mathlib.Numerals.{add-one}
-use borrow.Author.Tests.{le-leb, lt-leb, lt-ltb, le-ltb, eq-eqb, ne_eqb}
-use lib.Dec.{leb, ltb, eqb}
+use borrow.Author.Tests.{lt-ltb, le-ltb, eq-eqb, ne_eqb}
+use lib.Dec.{leb}
 use lib.ListN.{length, get_or, get_elem?, get_or-map, get_or-eq_default, length-map}
 use Rattle.definition.specs.Basics.{choose, saturating_add, is_member}
-use Rattle.definition.specs.Shapes.{Shape, unknown, scalar, composite, Wire, top, from_wire, if_same, is_lacking, top_if, known_wire}
+use Rattle.definition.specs.Shapes.{unknown, scalar, composite, Wire, top, from_wire, if_same, is_lacking, top_if, known_wire}
 use Rattle.definition.specs.Instructions.{Sig}
 use Rattle.definition.specs.Module.{no_sig, under_check, known_sig, known_const, Header as AnyHeader, address_bytes}
 use Rattle.definition.specs.Effects.{shape_of, returned, returned_native}
-use Rattle.definition.specs.Ops.{instr}
-use Rattle.bytecode.specs.Tables.{base, stride, row_at}
+use Rattle.bytecode.specs.Tables.{base, stride}
 use Rattle.bytecode.specs.Lists.{limited, limited_le, limited-same, limited-over, tabulate, tabulate-length, tabulate_some, tabulate_none, tabulate-at}
 use Rattle.bytecode.specs.Lists.{tabulate-past, tabulate-map}
 use Rattle.bytecode.specs.Meaning.{cell, count, word_wire, wire_of, table_instr_at, op_at, op_of, maxima_of, known_natives, known_native_at, known_sigs, known_sig_at, params_at}
@@ -26,7 +25,6 @@ use Rattle.bytecode.specs.Meaning.{first_low, end_low, enum_sizes_of, address_lo
 use Rattle.bytecode.specs.Operands.{three_enough}
 use Rattle.bytecode.specs.Parts.{any_instr_of, InstrIs, sig_shape, SpanIs, header_of, WidthsOf}
 use Rattle.bytecode.specs.declared.Instr.{Instr}
-use Rattle.bytecode.specs.declared.Span.{Span}
 use Rattle.bytecode.specs.declared.Header.{Header}
 use Rattle.value_layout.specs.declared.Widths.{Widths}
 

@@ -2,14 +2,14 @@
 use mathlib.Core.Path.{◌≡◌, refl, sym, ap, ap₂, subst, ◌∙◌}
 use mathlib.Core.Bool.{Bool, true, false, ◌&&◌}
 use mathlib.Core.Option.{Option, none, some}
-use mathlib.Core.List.{List, [], ◌∷◌, ◌++◌, map}
+use mathlib.Core.List.{List, [], ◌∷◌, ◌++◌}
 use Prim.Native.Nat.{ℕ, zero, suc, ◌+◌, ◌-◌, ◌*◌, ◌/◌, ◌%◌, ◌^◌, ◌≤◌, ◌<◌, min}
 use native.Mathlib.Decide.{dec_lt}
 use native.Mathlib.Nat.{pow-succ', zero-div, div-div-eq-div-mul}
 use native.Mathlib.Numerals.{add-one}
 use native.Mathlib.Omega.{arith}
 use borrow.Author.Tests.{eqb-true, eqb-false, eq-eqb}
-use lib.Dec.{T, eqb, ltb, leb, leb→le, ltb→lt, eqb→eq, eqb_refl}
+use lib.Dec.{T, eqb, ltb, leb, leb→le, ltb→lt, eqb→eq}
 use lib.Ieee.Fits.{and_l, and_r}
 use lib.ListN.{length, get_or, take, drop, take-append-drop, length-take, length-drop, drop_of_length-le}
 use lib.Pow.{pow-add}
@@ -19,7 +19,7 @@ use Rattle.definition.specs.Format.{Bytes, bytes}
 use Rattle.definition.specs.Ops.{ops, row}
 use Rattle.bytecode.specs.Tables.{all_below, at_each}
 use Rattle.bytecode.specs.Lists.{tabulate}
-use Rattle.bytecode.specs.Names.{names, name_bytes, name_at, lookup_from, lookup, little, AllBytes, Packs, place_of, text_place, index_of, placing, places}
+use Rattle.bytecode.specs.Names.{names, name_at, lookup_from, lookup, little, AllBytes, Packs, place_of, text_place, index_of, placing, places}
 use Rattle.bytecode.specs.declared.ops.Packed.{Packed}
 
 -- ── The same bytes ────────────────────────────────────────────────────────────────────────

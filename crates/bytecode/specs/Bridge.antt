@@ -1,26 +1,25 @@
 -- Tables that hold a module that fits mean that module, and its chunks as the walk takes them.
-use Rattle.std.specs.Prelude.{◌≡◌, Bool, true, false, T, leb, ltb, eqb}
+use Rattle.std.specs.Prelude.{◌≡◌, Bool, leb, eqb}
 use Rattle.std.proofs.Math.Path.{refl, ap}
-use Rattle.std.proofs.Common.{sym, ◌∙◌, subst, zero-add, add-zero, mod-eq_of_lt, add-one, le-leb, lt-ltb, le-ltb}
-use Rattle.std.proofs.Math.Option.{Option, none, some}
-use mathlib.Core.List.{List, [], ◌∷◌, ◌++◌, map, append-nil}
-use Prim.Native.Nat.{ℕ, zero, suc, ◌+◌, ◌-◌, ◌*◌, ◌/◌, ◌%◌, ◌≤◌, ◌<◌}
+use Rattle.std.proofs.Common.{sym, ◌∙◌, zero-add, add-zero, mod-eq_of_lt, add-one, le-leb, lt-ltb, le-ltb}
+use mathlib.Core.List.{List, [], ◌∷◌, ◌++◌, map}
+use Prim.Native.Nat.{ℕ, suc, ◌+◌, ◌-◌, ◌*◌, ◌/◌, ◌%◌, ◌≤◌, ◌<◌}
 use native.Mathlib.Omega.{arith}
 use Rattle.std.proofs.Math.ListN.{length, get_or, length-append, get_or-append}
 use Rattle.std.proofs.Math.Seq.{get_or-append-add}
 use Rattle.definition.specs.Basics.{choose}
 use Rattle.definition.specs.Shapes.{Wire, top, scalar_w, flat_w}
-use Rattle.definition.specs.Instructions.{Sig, Chunk}
+use Rattle.definition.specs.Instructions.{Sig}
 use Rattle.definition.specs.Ops.{Op}
-use Rattle.definition.specs.Module.{Slot, shared, private, Shared, Private, Code, Header, Module, all_consts, all_ops, no_sig, under_check, chunks_from}
+use Rattle.definition.specs.Module.{Slot, shared, private, Shared, Private, Code, Header, Module, all_consts, all_ops, no_sig, chunks_from}
 use Rattle.definition.specs.Module.{chunks_of}
 use Rattle.definition.specs.Read.{Reader}
-use Rattle.bytecode.specs.Tables.{tables, cap, stride, row_at}
+use Rattle.bytecode.specs.Tables.{tables, cap, stride}
 use Rattle.bytecode.specs.Held.{Held, lists, held_count, cell_is, length-map, wire_word, slot_words, header_words, shared_words, private_words}
 use Rattle.bytecode.specs.Held.{one_word, native_words, sig_words, op_words, chunk_words, chunk_rows, header_rows}
 use Rattle.bytecode.specs.Lists.{limited, limited-same, tabulate, tabulate_list, All, all_at, map_at}
 use Rattle.bytecode.specs.Meaning.{cell, count, table_header, slot_at, slot_of, shared_at, private_at, enum_at, word_wire, wire_of, native_at, params_at}
-use Rattle.bytecode.specs.Meaning.{sig_at, const_at, maxima_of, operands_of, op_of, op_at, locals_at, first_at, end_at, first_op, op_count, code_of}
+use Rattle.bytecode.specs.Meaning.{sig_at, const_at, maxima_of, operands_of, op_of, op_at, locals_at, first_at, end_at, first_op, code_of}
 use Rattle.bytecode.specs.Meaning.{slots_of, shareds_of, privates_of, enums_of, natives_of, sigs_of, module_of, chunk_of, table_chunks}
 use Rattle.bytecode.specs.Operands.{row_of}
 use Rattle.bytecode.specs.Fits.{WireFits, HeaderFits, SharedFits, PrivateFits, SigFits, Within, OpFits, ConstFits, EnumFits, CodeFits, ModuleFits}

@@ -1,5 +1,5 @@
 -- The op names: as bytes, packed into words, and looked up.
-use Rattle.std.specs.Prelude.{◌≡◌, refl, Bool, true, false, List, [], ◌∷◌, ◌++◌, map, ℕ, zero, suc, ◌+◌, ◌*◌, ◌%◌, ◌<◌, length, get_or, take, drop, eqb, ℤ, pos, ◌-ℤ◌, ◌+ℤ◌}
+use Rattle.std.specs.Prelude.{◌≡◌, true, false, List, [], ◌∷◌, ◌++◌, map, ℕ, suc, ◌+◌, ◌*◌, ◌%◌, ◌<◌, length, get_or, take, drop, eqb, ℤ, pos, ◌-ℤ◌, ◌+ℤ◌}
 use Rattle.std.proofs.Math.Option.{Option, none, some}
 use Rattle.bytecode.specs.Lists.{tabulate}
 use Rattle.std.proofs.Math.IntN.{ -ℤ-+ℤ_cancel}

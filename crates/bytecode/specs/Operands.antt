@@ -1,10 +1,10 @@
 -- A row has at most three operands, so three numbers are enough to say an instruction.
-use Rattle.std.specs.Prelude.{◌≡◌, refl, Bool, true, false, ◌&&◌, List, [], ◌∷◌, map, ℕ, zero, suc, ◌+◌, ◌≤◌, ◌<◌, T, leb, length, get_or}
-use Rattle.std.proofs.Common.{sym, ap, ◌∙◌, arith, leb→le}
-use Rattle.std.proofs.Math.Option.{Option, none, some}
+use Rattle.std.specs.Prelude.{◌≡◌, refl, Bool, true, ◌&&◌, List, [], ◌∷◌, map, ℕ, zero, suc, ◌≤◌, ◌<◌, T, leb, length, get_or}
+use Rattle.std.proofs.Common.{arith, leb→le}
+use Rattle.std.proofs.Math.Option.{some}
 use Rattle.std.specs.Float.Ieee.Fits.{and_l, and_r}
 use Rattle.std.proofs.Math.ListN.{get_elem?}
-use Rattle.definition.specs.Ops.{Row, ops, row, Makes, make_at, instr_of, Op, instr}
+use Rattle.definition.specs.Ops.{Row, ops, row, Makes, make_at, instr_of, instr}
 use Rattle.bytecode.specs.Lists.{limited}
 use Rattle.bytecode.specs.Meaning.{maxima_in, maxima_of, operands_of, op_of}
 

@@ -1,8 +1,7 @@
 -- What the code's own types mean.
-use Rattle.std.specs.Prelude.{◌≡◌, refl, Bool, true, false, ◌||◌, List, [], ◌∷◌, map, ℕ, zero, suc, ◌+◌, ◌-◌, ◌≤◌, ◌<◌, leb, ltb, eqb, length, get_or}
-use Rattle.std.proofs.Common.{sym, ap, ◌∙◌}
+use Rattle.std.specs.Prelude.{◌≡◌, true, false, ◌||◌, List, [], ◌∷◌, ℕ, ◌+◌, ◌-◌, ◌≤◌, ◌<◌, leb, ltb, eqb, get_or}
 use Rattle.std.proofs.Math.Option.{Option, none, some}
-use Rattle.definition.specs.Basics.{saturating_add, choose}
+use Rattle.definition.specs.Basics.{choose}
 use Rattle.definition.specs.Shapes.{Shape, unknown, scalar, composite, from_wire}
 use Rattle.definition.specs.Instructions.{Instr as AnyInstr, Chunk}
 use Rattle.definition.specs.Effects.{need, net}
@@ -10,7 +9,7 @@ use Rattle.definition.specs.Ops.{instr}
 use Rattle.definition.specs.Module.{Shared, Private, Header as AnyHeader, address_bytes}
 use Rattle.value_layout.specs.declared.Widths.{Widths}
 use Rattle.bytecode.specs.Tables.{cap}
-use Rattle.bytecode.specs.Meaning.{cell, count, table_header, enums_of, known_of, first_at, end_at, table_instr_at, op_at, maxima_of}
+use Rattle.bytecode.specs.Meaning.{cell, count, known_of, first_at, end_at, table_instr_at, op_at, maxima_of}
 use Rattle.bytecode.specs.declared.Span.{Span}
 use Rattle.bytecode.specs.declared.Constant.{Constant}
 use Rattle.bytecode.specs.declared.Constant.TheVariants.{Kind, Missing}

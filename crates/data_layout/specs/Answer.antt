@@ -1,6 +1,6 @@
 -- What the code's types mean.
 use Rattle.std.proofs.Math.Option.{Option, none, some}
-use Rattle.std.specs.Prelude.{List, [], ◌∷◌, ℕ}
+use Rattle.std.specs.Prelude.{ℕ}
 use Rattle.definition.specs.Module.{Private}
 use Rattle.bytecode.specs.Parts.{private_of}
 use Rattle.data_layout.specs.declared.Size.{Size}

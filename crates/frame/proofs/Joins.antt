@@ -3,19 +3,13 @@
 use mathlib.Core.Path.{◌≡◌, refl, sym, ap, ap₂, subst, ◌∙◌}
 use mathlib.Core.Bool.{Bool, true, false, ◌&&◌}
 use mathlib.Core.Logic.{⊎_elim}
-use mathlib.Core.Option.{Option, none, some}
-use mathlib.Core.List.{List, [], ◌∷◌}
+use mathlib.Core.List.{List, ◌∷◌}
 use Prim.Native.Nat.{ℕ, zero, suc, ◌+◌, ◌≤◌, ◌<◌}
 use native.Mathlib.Omega.{arith}
-use types.Run.{OneOf}
-use denote.Enum.Declared.{tag_of}
-use borrow.Author.Tests.{eqb-true, eq-eqb, ne_eqb, le-ltb, lt-ltb}
-use lib.Dec.{T, eqb, ltb}
-use lib.ListN.{length, get_or, take}
-use lib.Seq.{get_or-take, length-take-le, ext_get_or}
-use Rattle.definition.specs.Shapes.{Shape as AnyShape, unknown, scalar, composite, same_places, same_text, same_shape, same_shapes, if_same}
-use Rattle.definition.specs.Shapes.{join_text, join, join_all}
-use Rattle.definition.specs.Walk.{State as AnyState, join_states}
+use borrow.Author.Tests.{eq-eqb, ne_eqb}
+use Rattle.definition.specs.Shapes.{Shape as AnyShape, same_shape, same_shapes}
+use Rattle.definition.specs.Shapes.{join, join_all}
+use Rattle.definition.specs.Walk.{join_states}
 use Rattle.frame.specs.declared.State.{State}
 use Rattle.shapes.specs.Tabulated.{down, up}
 use Rattle.frame.specs.Model.{value_at, state_of, stack_of, locals_of, widened}

@@ -2,22 +2,18 @@
 -- Assumes nothing.
 use mathlib.Core.Path.{◌≡◌, refl, sym, ap, ap₂, subst, ◌∙◌}
 use mathlib.Core.Logic.{⊎_elim}
-use mathlib.Core.Option.{Option, none, some}
-use mathlib.Core.List.{List, [], ◌∷◌, ◌++◌, map}
+use mathlib.Core.List.{List, [], ◌++◌}
 use Prim.Native.Nat.{ℕ, zero, suc, ◌+◌, ◌*◌, ◌-◌, ◌/◌, ◌%◌, ◌≤◌, ◌<◌}
-use native.Mathlib.Numerals.{add-one}
 use native.Mathlib.Omega.{arith}
-use borrow.Author.Tests.{le-leb, lt-leb}
-use lib.ListN.{length, get_or, set, take, drop, replicate, length-map, length-set, length-drop, get_or-replicate, get_or-eq_default}
-use lib.Seq.{paste, paste-zero, take-take, get_or-set_same, get_or-set_other, set_out}
-use Rattle.definition.specs.Basics.{choose}
+use lib.ListN.{length, get_or, set, take, drop, replicate, length-drop, get_or-replicate, get_or-eq_default}
+use lib.Seq.{paste, take-take, get_or-set_same, get_or-set_other, set_out}
 use Rattle.definition.specs.Shapes.{Shape as AnyShape, unknown}
 use Rattle.definition.specs.Walk.{State as AnyState}
 use Rattle.frame.specs.declared.State.{State}
 use Rattle.frame.specs.declared.Slot.{Slot}
 use Rattle.shapes.specs.declared.Shape.{Shape}
 use Rattle.shapes.specs.declared.Shape.TheVariants.{Unknown, Scalar, Composite}
-use Rattle.shapes.specs.Tabulated.{down, up}
+use Rattle.shapes.specs.Tabulated.{down}
 use Rattle.shapes.specs.Model.{shape_of, places_of, count_of}
 use Rattle.frame.specs.Model.{slot_of, shape_in, value_in, value_at, at, state_of, stack_of, locals_of, replaced, with_local}
 use Rattle.frame.specs.Slots.{Written, Filled, Copied}

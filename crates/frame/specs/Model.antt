@@ -1,5 +1,5 @@
 -- What a state of the code stands for: a state of the definition, operands top first and as many locals as the chunk has.
-use Rattle.std.specs.Prelude.{ℕ, zero, suc, ◌*◌, ◌/◌, ◌%◌, ◌≡◌, List, [], ◌∷◌, ◌++◌, length, get_or, set, take, drop, replicate}
+use Rattle.std.specs.Prelude.{ℕ, zero, suc, ◌*◌, ◌/◌, ◌%◌, ◌≡◌, List, ◌∷◌, ◌++◌, length, get_or, set, take, drop, replicate}
 use Rattle.definition.specs.Shapes.{Shape as AnyShape, join_all}
 use Rattle.definition.specs.Walk.{State as AnyState}
 use Rattle.shapes.specs.declared.Shape.{Shape}

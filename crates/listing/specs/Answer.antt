@@ -1,5 +1,5 @@
 -- The answer of reading: 01's number and values for each case, and what the tables then mean.
-use Rattle.std.specs.Prelude.{◌≡◌, refl, true, List, [], ◌∷◌, ℕ, length}
+use Rattle.std.specs.Prelude.{◌≡◌, true, List, [], ◌∷◌, ℕ, length}
 use Rattle.std.proofs.Common.{sym, ap, ◌∙◌}
 use Rattle.definition.specs.Basics.{Result, ok, refused}
 use Rattle.definition.specs.Format.{Bytes}

@@ -1,6 +1,6 @@
 -- Every number of a module that is read is within what its line may say.
 use Rattle.std.proofs.Math.Path.{◌≡◌, subst}
-use Rattle.std.specs.Prelude.{refl, Bool, ◌&&◌, ◌||◌, T, ltb, eqb, length, get_or}
+use Rattle.std.specs.Prelude.{refl, Bool, ◌&&◌, ◌||◌, T, eqb, length, get_or}
 use Rattle.std.proofs.Common.{sym, ap, ◌∙◌, arith, add-zero, add-suc, suc-add, zero-add, eqb→eq, leb→le, leb-true}
 use Rattle.std.proofs.Math.Bool.{true, false}
 use Rattle.std.proofs.Math.Option.{Option, none, some}
@@ -9,14 +9,13 @@ use Prim.Native.Nat.{ℕ, zero, suc, ◌+◌, ◌≤◌, ◌<◌}
 use Rattle.std.proofs.Math.Dec.{leb}
 use Rattle.std.specs.Float.Ieee.Fits.{and_l, and_r}
 use Rattle.definition.specs.Basics.{Result, ok, refused, ◌>>=◌, first, unless, pass, is_member}
-use Rattle.definition.specs.Shapes.{Wire, top, scalar_w, flat_w}
-use Rattle.definition.specs.Instructions.{Sig}
-use Rattle.definition.specs.Format.{Bytes, bytes, bits, Item, text, number, among, numbers, shape, shapes, Form, form, Maker, ShapeReader, parse, front}
+use Rattle.definition.specs.Shapes.{Wire}
+use Rattle.definition.specs.Format.{Bytes, bytes, Item, text, number, among, numbers, shape, shapes, Form, form, Maker, ShapeReader, parse, front}
 use Rattle.definition.specs.Format.{shape_forms, shape_at, shapes_at, begins_with, strip, number_at, numbers_at, provided, ◌and_then◌, nothing_after, whole, digits_from, begins_number}
-use Rattle.definition.specs.Ops.{Row, ops, row, Op}
+use Rattle.definition.specs.Ops.{Row, ops}
 use Rattle.definition.specs.Module.{Module, Code}
 use Rattle.definition.specs.Read.{Line, first_line, slot_line, shared_line, private_line, enum_line, native_line, sig_line, chunk_line, const_line}
-use Rattle.definition.specs.Read.{op_line, close_line, line_forms, op_forms, read_line, limits, has_room, add, add_const, add_op, to_last, Reader, at_start}
+use Rattle.definition.specs.Read.{op_line, close_line, line_forms, op_forms, read_line, limits, add, add_const, add_op, to_last, Reader, at_start}
 use Rattle.definition.specs.Read.{or_line, next_line, follow, Lines, line, end, cut, read_lines, read}
 use Rattle.theorems.specs.Rendered.{Values, at_values}
 use Rattle.bytecode.specs.Lists.{All}

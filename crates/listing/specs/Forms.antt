@@ -1,7 +1,7 @@
 -- What a form's number and the words read by it say of the line: its table, its row, where it may stand, which limits it meets.
 use Rattle.std.proofs.Math.Path.{◌≡◌, sym, ap, subst}
-use Rattle.std.specs.Prelude.{refl, Bool, true, false, not, ◌&&◌, ◌||◌, ◌⊎◌, T, leb, ltb, eqb, get_or, drop}
-use Rattle.std.proofs.Common.{◌∙◌, inl, inr, add-zero, add-suc, suc-add, zero-add}
+use Rattle.std.specs.Prelude.{refl, Bool, true, false, not, ◌&&◌, leb, ltb, eqb, get_or, drop}
+use Rattle.std.proofs.Common.{◌∙◌}
 use Rattle.std.proofs.Math.Option.{Option, none, some}
 use Rattle.std.proofs.Math.Logic.{⊎_elim}
 use mathlib.Core.List.{List, [], ◌∷◌, ◌++◌, map, append-nil}
@@ -9,15 +9,14 @@ use Prim.Native.Nat.{ℕ, zero, suc, ◌+◌, ◌-◌, ◌≤◌, ◌<◌}
 use native.Mathlib.Omega.{arith}
 use Rattle.std.proofs.Math.Dec.{leb-suc-suc}
 use Rattle.definition.specs.Shapes.{Wire}
-use Rattle.std.specs.Float.Ieee.Fits.{and_l, and_r}
 use Rattle.std.proofs.Math.ListN.{length, get_elem?, get_or-eq_default}
 use borrow.Author.Tests.{le-leb, ne_eqb}
 use Rattle.definition.specs.Basics.{choose, is_member, unless, first}
-use Rattle.definition.specs.Format.{Bytes, bytes, bits, Item, text, number, among, numbers, shape, shapes, Form, form, Maker, parse, shape_at}
-use Rattle.definition.specs.Format.{◌and_then◌, nothing_after, whole, provided, number_at}
-use Rattle.definition.specs.Ops.{Row, ops, Op, row, instr, named_kind, has_kind}
+use Rattle.definition.specs.Format.{Bytes, bytes, Form, form, parse, shape_at}
+use Rattle.definition.specs.Format.{◌and_then◌, nothing_after, whole, provided}
+use Rattle.definition.specs.Ops.{ops, Op, instr, named_kind, has_kind}
 use Rattle.definition.specs.Module.{Header, Module, all_consts, all_ops}
-use Rattle.definition.specs.Read.{Line, op_line, line_forms, op_forms, within, follow, limits, has_room}
+use Rattle.definition.specs.Read.{Line, op_line, line_forms, within, follow, limits, has_room}
 use Rattle.theorems.specs.KindOf.{has_kinds, kinds_by_maxima}
 use Rattle.theorems.specs.Rendered.{Values, at_values}
 use Rattle.bytecode.specs.Tables.{cap}
@@ -25,8 +24,8 @@ use Rattle.bytecode.specs.Meaning.{maxima_of}
 use Rattle.bytecode.specs.Operands.{row_of}
 use Rattle.bytecode.specs.Held.{wire_word, kind, words, length-map, header_words, slot_words, shared_words, private_words, one_word, native_words}
 use Rattle.bytecode.specs.Held.{sig_words, chunk_words, op_words}
-use Rattle.listing.specs.Scan.{max_code, among_code, codes, admitted, item, one, Words, scan, forms, form_codes}
-use Rattle.listing.specs.Agree.{as_words, ascii, known_max, known_all, Known, Agree, agree}
+use Rattle.listing.specs.Scan.{among_code, codes, admitted, item, scan, form_codes}
+use Rattle.listing.specs.Agree.{as_words, ascii, known_max, Known, Agree, agree}
 
 -- ── What is read off a form's number ──────────────────────────────────────────────────────
 

@@ -1,20 +1,19 @@
 -- Lines `(op NAME ..)`: the name is cut off before `)` or before a space and a digit, and its row decides the form.
-use Rattle.std.specs.Prelude.{◌≡◌, Bool, true, false, not, ◌&&◌, ◌||◌, ℕ, zero, suc, ◌+◌, ◌*◌, ◌-◌, ◌≤◌, ◌<◌, leb, eqb, length, drop, take}
+use Rattle.std.specs.Prelude.{◌≡◌, Bool, true, false, not, ◌&&◌, ◌||◌, ℕ, suc, ◌+◌, ◌<◌, leb, eqb, length, drop}
 use Rattle.std.proofs.Math.Path.{refl, sym, ap}
-use Rattle.std.proofs.Common.{◌∙◌, subst, arith, add-zero, add-suc, suc-add, zero-add, eqb→eq, length-drop, eqb-true, eq-eqb, ne_eqb}
+use Rattle.std.proofs.Common.{◌∙◌, subst, arith, add-zero, add-suc, suc-add, zero-add, eqb→eq, eqb-true, eq-eqb, ne_eqb}
 use Rattle.std.proofs.Math.Option.{Option, none, some}
 use mathlib.Core.List.{List, [], ◌∷◌, ◌++◌, map}
 use Prim.Native.String.{String}
-use Rattle.std.proofs.Math.Dec.{T, eqb_refl}
+use Rattle.std.proofs.Math.Dec.{T}
 use Rattle.std.specs.Float.Ieee.Fits.{and_l, and_r}
 use Rattle.std.proofs.Math.ListN.{get_or}
 use Rattle.std.proofs.lemmas.Bool.{eqb-false}
-use Rattle.definition.specs.Basics.{is_member}
 use Rattle.definition.specs.Shapes.{same_places}
-use Rattle.definition.specs.Format.{Bytes, bytes, Item, text, numbers, Form, form, Maker, parse, shape_at, strip, number_at, numbers_at, provided}
-use Rattle.definition.specs.Format.{◌and_then◌, nothing_after, whole, is_digit, begins_digit, begins_number, digits_from}
-use Rattle.definition.specs.Ops.{Row, ops, row, Op}
-use Rattle.definition.specs.Read.{Line, op_line, line_forms, op_forms, read_line}
+use Rattle.definition.specs.Format.{Bytes, bytes, Item, text, numbers, Form, form, parse, shape_at, strip, number_at, numbers_at, provided}
+use Rattle.definition.specs.Format.{◌and_then◌, nothing_after, whole, is_digit, begins_digit, begins_number}
+use Rattle.definition.specs.Ops.{Row, ops, row}
+use Rattle.definition.specs.Read.{Line, op_line, op_forms}
 use Rattle.bytecode.specs.Meaning.{maxima_in, maxima_of}
 use Rattle.bytecode.specs.Names.{name_bytes, names, lookup_from, lookup}
 

@@ -1,14 +1,13 @@
 -- An op's line, step by step: the end of its name, its operands, its end.
-use Rattle.std.specs.Prelude.{◌≡◌, Bool, not, ◌&&◌, ◌||◌, leb, length, set}
+use Rattle.std.specs.Prelude.{◌≡◌, Bool, not, ◌&&◌, leb, length, set}
 use Rattle.std.proofs.Math.Path.{refl, sym, ap}
-use Rattle.std.proofs.Common.{◌∙◌, subst, add-zero, add-suc, suc-add, zero-add, eqb→eq, length-append, drop_of_length-le, drop-drop, get_or-drop, length-take-le}
+use Rattle.std.proofs.Common.{◌∙◌, subst, drop_of_length-le, drop-drop, get_or-drop, length-take-le}
 use Rattle.std.proofs.Math.Bool.{true, false}
 use Rattle.std.proofs.Math.Option.{Option, none, some}
-use mathlib.Core.List.{List, [], ◌∷◌, ◌++◌, map, append_assoc, append-nil}
-use Prim.Native.Nat.{ℕ, zero, suc, ◌+◌, ◌*◌, ◌-◌, ◌≤◌, ◌<◌}
+use mathlib.Core.List.{List, [], ◌∷◌, ◌++◌, append_assoc, append-nil}
+use Prim.Native.Nat.{ℕ, zero, suc, ◌+◌, ◌-◌, ◌≤◌, ◌<◌}
 use native.Mathlib.Omega.{arith}
 use Rattle.std.proofs.Math.Numerals.{add-one}
-use Rattle.std.proofs.Math.Decide.{dec_lt}
 use Rattle.std.proofs.Math.Dec.{T, eqb}
 use Rattle.std.specs.Float.Ieee.Fits.{and_l, and_r}
 use Rattle.std.proofs.Math.ListN.{get_or, drop, take, length-drop}
@@ -16,20 +15,20 @@ use Rattle.std.proofs.Math.Seq.{drop-cons, take-suc}
 use borrow.Author.Tests.{eqb-true, eq-eqb, ne_eqb}
 use Rattle.definition.specs.Basics.{is_member}
 use Rattle.definition.specs.Shapes.{same_places}
-use Rattle.definition.specs.Format.{Bytes, bytes, Form, form, shape_at, strip, number_at, numbers_at, ◌and_then◌, whole, begins_digit}
-use Rattle.definition.specs.Ops.{Row as OpRow, ops, row, Op}
+use Rattle.definition.specs.Format.{Bytes, bytes, form, shape_at, strip, number_at, numbers_at, ◌and_then◌, begins_digit}
+use Rattle.definition.specs.Ops.{ops, row, Op}
 use Rattle.definition.specs.Read.{Line, op_line, line_forms, op_forms, read_line}
 use Rattle.theorems.specs.Keys.{key, apart, apart_from, keys, none_reads}
-use Rattle.bytecode.specs.Meaning.{maxima_in, maxima_of}
+use Rattle.bytecode.specs.Meaning.{maxima_of}
 use Rattle.bytecode.specs.Operands.{row_of}
 use Rattle.bytecode.specs.Tables.{all_below, at_each}
-use Rattle.bytecode.specs.Names.{names, name_bytes, lookup_from, lookup}
+use Rattle.bytecode.specs.Names.{names, lookup_from, lookup}
 use Rattle.listing.specs.Scan.{Words, joined, admitted, max_code}
 use Rattle.listing.specs.Agree.{known_max, known_all, max_number}
 use Rattle.listing.specs.Forms.{op_fits}
 use Rattle.listing.specs.Fitting.{numbers_fit, within_long}
 use Rattle.listing.specs.Rows.{Stored, put_kept, Rowed, row_bad}
-use Rattle.listing.specs.Find.{whole_line, Entered, entered_none, entered_one}
+use Rattle.listing.specs.Find.{whole_line, Entered, entered_one}
 use Rattle.listing.specs.OpLines.{name_ends, name_of, name_stop, name_more, closing, after_name, line_of_row, by_name, no_ops, both_whole}
 use Rattle.listing.specs.declared.Row.{Row}
 use Rattle.listing.specs.declared.Entry.{Entry}

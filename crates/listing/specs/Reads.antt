@@ -1,10 +1,9 @@
 -- All lines, and what reading a listing gives.
-use Rattle.std.specs.Prelude.{◌≡◌, Bool, ◌&&◌, ◌≢◌, List, [], ◌∷◌, ◌++◌, map, T, leb, ltb, eqb, length, set, drop}
+use Rattle.std.specs.Prelude.{◌≡◌, Bool, ◌&&◌, ◌≢◌, List, [], ◌∷◌, ◌++◌, eqb, length, set, drop}
 use Rattle.std.proofs.Math.Path.{refl, sym, ap, subst}
-use Rattle.std.proofs.Common.{◌∙◌, ⊎_elim, add-zero, zero-add, add-one, le-leb, eq-eqb, ne_eqb, length-set, drop_of_length-le, drop-cons, drop-drop, get_or-drop, get_or-set_same, get_or-set_other, take_all}
+use Rattle.std.proofs.Common.{◌∙◌, ⊎_elim, add-one, le-leb, eq-eqb, ne_eqb, length-set, drop_of_length-le, drop-cons, get_or-drop, get_or-set_same, get_or-set_other, take_all}
 use Rattle.std.proofs.Math.Bool.{true, false}
-use Rattle.std.proofs.Math.Option.{Option, none, some}
-use Prim.Native.Nat.{ℕ, zero, suc, ◌+◌, ◌-◌, ◌*◌, ◌≤◌, ◌<◌}
+use Prim.Native.Nat.{ℕ, zero, suc, ◌+◌, ◌-◌, ◌≤◌, ◌<◌}
 use native.Mathlib.Omega.{arith}
 use Rattle.std.proofs.Math.Decide.{dec_lt}
 use Rattle.std.proofs.lemmas.Bool.{lt-leb}
@@ -14,7 +13,7 @@ use Rattle.definition.specs.Basics.{Result, ok, refused, ◌>>=◌, unless, pass
 use Rattle.definition.specs.Format.{Bytes, provided}
 use Rattle.definition.specs.Module.{Module, all_consts, all_ops}
 use Rattle.definition.specs.Read.{Lines, line, end, byte_before, cut, Reader, at_start, or_line, next_line, is_empty, read_lines, read, limit}
-use Rattle.bytecode.specs.Tables.{tables, cap, size, table, rows, eq_or}
+use Rattle.bytecode.specs.Tables.{size, table, rows, eq_or}
 use Rattle.bytecode.specs.Held.{Held, lists, Sound, header_rows, chunk_rows}
 use Rattle.listing.specs.Step.{StepIs}
 use Rattle.listing.specs.declared.Reading.{Reading}

@@ -1,13 +1,13 @@
 -- The values of a line in an array: value j stands at j + 1; past 18 they are counted as 19 and not kept.
-use Rattle.std.specs.Prelude.{◌≡◌, refl, Bool, true, false, not, ◌&&◌, ◌≢◌, ℕ, zero, suc, ◌+◌, ◌*◌, ◌-◌, ◌≤◌, ◌<◌, T, eqb, ltb, set, drop, replicate}
+use Rattle.std.specs.Prelude.{◌≡◌, refl, Bool, true, false, not, ◌&&◌, ◌≢◌, ℕ, ◌+◌, ◌*◌, ◌-◌, ◌≤◌, ◌<◌, T, eqb, ltb, set, drop, replicate}
 use Rattle.std.proofs.Math.Path.{sym, ap}
-use Rattle.std.proofs.Common.{◌∙◌, subst, arith, add-zero, length-append, length-set, drop_of_length-le, length-drop, get_or-set_same, get_or-set_other, drop-cons}
+use Rattle.std.proofs.Common.{◌∙◌, subst, arith, length-append, length-set, drop_of_length-le, length-drop, get_or-set_same, get_or-set_other, drop-cons}
 use Rattle.std.proofs.Math.Option.{Option, none, some}
 use mathlib.Core.List.{List, [], ◌∷◌, ◌++◌, append_assoc, append-nil}
 use Rattle.std.proofs.Math.Logic.{⊎_elim}
 use Rattle.std.proofs.Math.Numerals.{add-one}
 use Rattle.std.proofs.Math.Decide.{dec_lt}
-use borrow.Author.Tests.{eq-eqb, ne_eqb, lt-ltb, le-ltb, eqb-true, eqb-false, not-true, not-false}
+use borrow.Author.Tests.{eq-eqb, ne_eqb, le-ltb, eqb-true, eqb-false, not-true, not-false}
 use Rattle.std.proofs.Math.ListN.{length, get_or, get_or-append, get_or-eq_default}
 use Rattle.std.proofs.lemmas.List.{get_or-replicate, get_or_at}
 use Rattle.definition.specs.Format.{Bytes, number_at, strip, ◌and_then◌, begins_with, form, bytes}

@@ -1,8 +1,8 @@
 -- Line forms as bytes, and what reading by them gives: the values of a line as words.
 -- A byte below 128 stands for itself. 128, 129 and 130 are a number of 8, 16 and 32 bits; 131 one of W, 132 one of A, 133 one of const's K,
 -- 134 a K of 0 to 7, 135 a KIND of 0 to 3, 136 one of F; 140 is a shape, 141 any number of shapes.
-use Rattle.std.specs.Prelude.{Bool, true, false, ◌&&◌, ◌||◌, List, [], ◌∷◌, ◌++◌, map, ℕ, zero, suc, ◌+◌, ◌*◌, ◌-◌, leb, ltb, eqb, length, get_or, drop}
-use Rattle.std.proofs.Math.Option.{Option, none, some}
+use Rattle.std.specs.Prelude.{Bool, true, false, List, [], ◌∷◌, ◌++◌, map, ℕ, zero, suc, leb, ltb, eqb, length}
+use Rattle.std.proofs.Math.Option.{Option, some}
 use Rattle.definition.specs.Basics.{choose, is_member}
 use Rattle.definition.specs.Format.{Bytes, bytes, Item, text, number, among, numbers, shape, shapes, Form, strip, number_at, shapes_at, shape_at, ◌and_then◌}
 use Rattle.definition.specs.Ops.{ops}

@@ -5,7 +5,7 @@ use Rattle.std.specs.Prelude.{Bool, ◌&&◌, T, ltb, eqb, ◌⊎◌, ◌≢◌,
 use Rattle.std.proofs.Math.Bool.{true, false, not}
 use Rattle.std.proofs.Math.Option.{Option, none, some}
 use mathlib.Core.List.{List, [], ◌∷◌, ◌++◌, map, append-nil}
-use Prim.Native.Nat.{ℕ, zero, suc, ◌+◌, ◌-◌, ◌*◌, ◌≤◌, ◌<◌}
+use Prim.Native.Nat.{ℕ, zero, suc, ◌+◌, ◌-◌, ◌≤◌, ◌<◌}
 use Rattle.std.proofs.Math.Dec.{leb}
 use Rattle.std.specs.Float.Ieee.Fits.{and_l, and_r}
 use borrow.Author.Tests.{le-ltb, lt-ltb, le-leb, lt-leb, leb-true, eq-eqb, ne_eqb}
@@ -15,11 +15,10 @@ use Rattle.definition.specs.Basics.{Result, ok, refused, ◌>>=◌, unless, firs
 use Rattle.definition.specs.Format.{Bytes, provided}
 use Rattle.definition.specs.Module.{Module, Code, all_consts, all_ops}
 use Rattle.definition.specs.Read.{Reader, Line, first_line, slot_line, shared_line, private_line, enum_line, native_line, sig_line, chunk_line}
-use Rattle.definition.specs.Read.{const_line, op_line, close_line, read_line, follow, limits, limit, add, next_line, or_line, within, to_last, add_const, add_op}
-use Rattle.bytecode.specs.Tables.{tables, cap, size, padded, cells, cells_eq, stride, stride_small, Appended, table, eq_or}
+use Rattle.definition.specs.Read.{const_line, op_line, close_line, read_line, limits, limit, add, next_line, or_line, within, to_last, add_const, add_op}
+use Rattle.bytecode.specs.Tables.{tables, cap, padded, cells_eq, stride, stride_small, Appended, eq_or}
 use Rattle.definition.specs.Shapes.{is_lacking}
 use Rattle.theorems.specs.KindOf.{has_kinds}
-use Rattle.bytecode.specs.Lists.{limited}
 use Rattle.bytecode.specs.Meaning.{maxima_of, table_header, cell}
 use Rattle.bytecode.specs.Held.{Held, lists, Sound, Stands, kind, words, more, more_is, held_more, held_count, length-map, chunk_rows, header_rows, header_words, cell_is}
 use Rattle.bytecode.specs.Held.{slot_words, shared_words, private_words, one_word, native_words, sig_words, op_words}

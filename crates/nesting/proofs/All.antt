@@ -14,7 +14,6 @@ use Rattle.bytecode.specs.Meaning.{count, chunk_of, table_chunks}
 use Rattle.nesting.specs.Answer.{NestingIs, broken_of, deep_of, deeper_of_all}
 use Rattle.nesting.specs.declared.ChunkNesting.{ChunkNesting}
 use Rattle.nesting.specs.declared.ChunkNesting.TheVariants as one
-use Rattle.answer.specs.declared.Refusal.{Refusal}
 use Rattle.answer.specs.declared.Refusal.TheVariants.{NotNested, LimitPassed}
 use Rattle.answer.specs.declared.Finding.{Finding}
 use Rattle.answer.specs.declared.Finding.TheVariants.{Nothing, Refused}

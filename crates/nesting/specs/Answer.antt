@@ -1,5 +1,5 @@
 -- The answers, as the definitions have them.
-use Rattle.std.specs.Prelude.{◌≡◌, true, false, List, [], ◌∷◌, ℕ, ltb}
+use Rattle.std.specs.Prelude.{◌≡◌, true, false, ℕ, ltb}
 use Rattle.std.proofs.Math.Option.{Option, none, some}
 use Rattle.definition.specs.Instructions.{Chunk}
 use Rattle.definition.specs.Nesting.{first_broken, too_deep}

@@ -1,10 +1,10 @@
 -- Arguments against parameters, and the rule of a call.
 -- Assumes nothing.
-use mathlib.Core.Path.{◌≡◌, refl, sym, ap, ap₂, subst, ◌∙◌}
+use mathlib.Core.Path.{◌≡◌, refl, sym, ap, ap₂, ◌∙◌}
 use mathlib.Core.Bool.{Bool, true, false}
-use mathlib.Core.Option.{Option, none, some}
+use mathlib.Core.Option.{none, some}
 use mathlib.Core.List.{List, [], ◌∷◌, map, reverse}
-use Prim.Native.Nat.{ℕ, zero, suc, ◌+◌, ◌-◌, ◌≤◌, ◌<◌, min}
+use Prim.Native.Nat.{ℕ, zero, suc, ◌+◌, ◌-◌, ◌≤◌, ◌<◌}
 use native.Mathlib.Numerals.{add-one}
 use native.Mathlib.Omega.{arith}
 use lib.ListN.{length, get_or, get_elem?, take, drop, drop_of_length-le}
@@ -18,12 +18,12 @@ use Rattle.definition.specs.Tests.{fits_declared, args_test, call_test, reading,
 use Rattle.definition.specs.Walk.{State as AnyState}
 use Rattle.bytecode.specs.Lists.{map_at}
 use Rattle.shapes.specs.Model.{value_of}
-use Rattle.shapes.specs.Tabulated.{down, up}
-use Rattle.shapes.proofs.Lists.{down-at, down-length, get_d_up, up-length}
+use Rattle.shapes.specs.Tabulated.{down}
+use Rattle.shapes.proofs.Lists.{down-at, get_d_up, up-length}
 use Rattle.shapes.proofs.Text.{reverse-take}
 use Rattle.shapes.specs.declared.Value.{Value}
 use Rattle.answer.specs.declared.Verdict.{Verdict}
-use Rattle.answer.specs.Answer.{refusal, fields}
+use Rattle.answer.specs.Answer.{refusal}
 use Rattle.rules.specs.Rules.{Moves, Rules}
 use Rattle.rules.proofs.Rules.{tested}
 

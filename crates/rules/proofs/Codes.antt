@@ -7,9 +7,8 @@ use mathlib.Core.List.{List, [], ◌∷◌}
 use Prim.Native.Nat.{ℕ, zero, suc, ◌+◌, ◌≤◌, ◌<◌}
 use native.Mathlib.Nat.{eq-or-lt_of_le}
 use native.Mathlib.Omega.{arith}
-use lib.Dec.{T, eqb, lit≤}
+use lib.Dec.{T, lit≤}
 use lib.ListN.{length, get_or}
-use lib.IntN.{ℤ, pos, ◌-ℤ◌}
 use borrow.Author.Tests.{ne_eqb}
 use Rattle.definition.specs.Basics.{is_member}
 use Rattle.definition.specs.Instructions.{Instr as AnyInstr, Chunk, Owner, Struct, Tuple, Enum, shaped, SetLocal, Call, NewFlat, GetFlat, GetIndex, Flat, FlatNested}
@@ -18,7 +17,7 @@ use Rattle.definition.specs.Instructions.{Yield, Native}
 use Rattle.definition.specs.Shapes.{Shape as AnyShape, unknown}
 use Rattle.definition.specs.Tests.{reading, is_blind, is_unknown}
 use Rattle.definition.specs.Ops.{ops, row, instr, instr_of, make_at}
-use Rattle.definition.specs.Effects.{need, takes, net, pushes, effect, shaped_need}
+use Rattle.definition.specs.Effects.{need, pushes, effect, shaped_need}
 use Rattle.definition.specs.Walk.{State as AnyState}
 use Rattle.bytecode.specs.Meaning.{maxima_of}
 use Rattle.bytecode.specs.Parts.{any_instr_of}

@@ -2,13 +2,13 @@
 -- Assumes nothing.
 use mathlib.Core.Path.{◌≡◌, refl, sym, ap, subst, ◌∙◌}
 use mathlib.Core.List.{List}
-use Prim.Native.Nat.{ℕ, ◌+◌, ◌/◌, ◌^◌, ◌≤◌, ◌<◌}
+use Prim.Native.Nat.{ℕ, ◌≤◌, ◌<◌}
 use Rattle.definition.specs.Module.{Header as AnyHeader}
 use Rattle.definition.specs.Effects.{need, net}
 use Rattle.value_layout.specs.Sizes.{Wide}
 use Rattle.value_layout.specs.declared.Widths.{Widths}
 use Rattle.bytecode.specs.Tables.{cap}
-use Rattle.bytecode.specs.Meaning.{table_header, chunk_of, locals_at, first_at, end_at, chunk_word, chunk_float, chunk_address, chunk_index_trap}
+use Rattle.bytecode.specs.Meaning.{table_header, chunk_of, locals_at, chunk_word, chunk_float, chunk_address, chunk_index_trap}
 use Rattle.bytecode.specs.Meaning.{chunk_host_trap, locals_low}
 use Rattle.bytecode.specs.Parts.{header_of, WidthsOf, SpanIs, EffectIs, any_instr_of}
 use Rattle.bytecode.specs.declared.Instr.{Instr}

@@ -1,10 +1,10 @@
 -- The rule of each family is the definition's.
 -- Assumes nothing.
 use mathlib.Core.Path.{◌≡◌, refl, sym, ap, ap₂, subst, ◌∙◌}
-use mathlib.Core.Bool.{Bool, true, false, not, ◌&&◌, ◌||◌}
+use mathlib.Core.Bool.{Bool, true, false, ◌&&◌, ◌||◌}
 use mathlib.Core.Option.{Option, none, some}
 use mathlib.Core.List.{List, [], ◌∷◌, ◌++◌, map, reverse}
-use Prim.Native.Nat.{ℕ, zero, suc, ◌+◌, ◌%◌, ◌≤◌, ◌<◌}
+use Prim.Native.Nat.{ℕ, zero, suc, ◌+◌, ◌%◌, ◌≤◌}
 use native.Mathlib.Omega.{arith}
 use lib.IntN.{ℤ, pos, nat_abs, ◌+ℤ◌, ◌-ℤ◌, -ℤ-+ℤ_cancel}
 use lib.Dec.{T, eqb, ltb, leb}
@@ -12,19 +12,18 @@ use lib.ListN.{length, get_or, get_elem?, take, replicate, length-replicate, len
 use borrow.Author.Tests.{eq-eqb, ne_eqb, le-leb, lt-leb}
 use Rattle.definition.specs.Basics.{first, unless, choose}
 use Rattle.definition.specs.Shapes.{Shape as AnyShape, unknown, scalar, composite, Wire, from_wire}
-use Rattle.definition.specs.Instructions.{Instr, Chunk, Owner, Plain, plain, shaped, jump, PopN, SetLocal, Call, NewFlat, NewBoxed, GetFlat, GetBoxed, GetIndex}
+use Rattle.definition.specs.Instructions.{Instr, Chunk, Owner, plain, shaped, jump, PopN, SetLocal, Call, NewFlat, NewBoxed, GetFlat, GetBoxed, GetIndex}
 use Rattle.definition.specs.Instructions.{Const, GetLocal, Dup, IndexBoxed, GetDataIndexed, SetDataIndexed, BoundsCheck, IsEnum, IsStruct, Yield, Native}
 use Rattle.definition.specs.Instructions.{Flat, FlatNested, ElemFlat, ElemNested}
-use Rattle.definition.specs.Effects.{width, need, takes, net, pushes, shape_of, exact, declared, set_local, effect, shaped_need, jump_need, shaped_pushes}
-use Rattle.definition.specs.Effects.{const_shape, returned, returned_native, with_flag, with_bounds, nested_places, element_places, packed, built_places}
+use Rattle.definition.specs.Effects.{width, need, takes, net, pushes, shape_of, exact, set_local, effect, shaped_need, shaped_pushes}
+use Rattle.definition.specs.Effects.{const_shape, returned_native, with_flag, with_bounds, nested_places, element_places, packed, built_places}
 use Rattle.definition.specs.Effects.{text_unless_enum, if_places}
-use Rattle.definition.specs.Tests.{Reading, reading, reading_test, is_blind, is_unknown, other_tests, field_test, index_test, text_field_test, text_index_test}
+use Rattle.definition.specs.Tests.{reading, reading_test, is_blind, is_unknown, other_tests, field_test, index_test, text_field_test, text_index_test}
 use Rattle.definition.specs.Tests.{test_if, size_test, enum_test, places_test}
 use Rattle.definition.specs.Walk.{State as AnyState}
 use Rattle.shapes.specs.Model.{value_of, places_of}
-use Rattle.shapes.specs.Text.{Counted, Means}
+use Rattle.shapes.specs.Text.{Counted}
 use Rattle.shapes.specs.declared.Value.{Value}
-use Rattle.shapes.specs.declared.Built.{Built}
 use Rattle.shapes.specs.declared.Count.{Count}
 use Rattle.shapes.specs.declared.Count.TheVariants.{Known, Many, Open}
 use Rattle.answer.specs.declared.Verdict.{Verdict}
@@ -32,7 +31,7 @@ use Rattle.answer.specs.declared.Verdict.TheVariants.{Passed, Refused}
 use Rattle.answer.specs.declared.Refusal.TheVariants.{LimitPassed}
 use Rattle.rules.specs.declared.Rule.{Rule}
 use Rattle.answer.specs.Answer.{refusal, is_none, fields}
-use Rattle.rules.specs.Rules.{own_tests, Moves, Rules, Quiet, Body, passing_of, refusing_of, is_generic}
+use Rattle.rules.specs.Rules.{Moves, Rules, Quiet, Body, passing_of, refusing_of, is_generic}
 use Rattle.rules.proofs.Tests.{is_none_eq, not_none}
 
 -- ── How a rule is met ─────────────────────────────────────────────────────────────────────

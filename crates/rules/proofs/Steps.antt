@@ -4,32 +4,27 @@ use mathlib.Core.Path.{◌≡◌, refl, sym, ap, ap₂, subst, ◌∙◌}
 use mathlib.Core.Bool.{Bool, true, false}
 use mathlib.Core.Option.{Option, none, some}
 use mathlib.Core.List.{List, [], ◌∷◌, ◌++◌, append_assoc, map}
-use Prim.Native.Nat.{ℕ, zero, suc, ◌+◌, ◌-◌, ◌≤◌, ◌<◌}
+use Prim.Native.Nat.{ℕ, ◌+◌, ◌-◌, ◌≤◌, ◌<◌}
 use native.Mathlib.Omega.{arith}
-use borrow.Author.Tests.{eq-eqb, ne_eqb, le-leb, lt-leb}
+use borrow.Author.Tests.{le-leb, lt-leb}
 use lib.ListN.{length, get_or, drop, set, replicate, length-append, length-replicate, length-drop}
-use Rattle.definition.specs.Basics.{Result, ok, refused, first, unless, pass}
+use Rattle.definition.specs.Basics.{ok, first, unless, pass}
 use Rattle.definition.specs.Shapes.{Shape as AnyShape, unknown, scalar, from_wire}
 use Rattle.definition.specs.Instructions.{Instr, Chunk, Shaped, plain, shaped, jump, PopN, SetLocal, Call, NewFlat, NewBoxed, GetFlat, GetBoxed, GetIndex}
 use Rattle.definition.specs.Instructions.{Const, GetLocal, BoundsCheck, IsStruct, GetDataIndexed, SetDataIndexed, Native, IsEnum, Dup, Yield, IndexBoxed}
-use Rattle.definition.specs.Effects.{need, takes, pushes, shape_of, set_local, set_top, write, shaped_need}
+use Rattle.definition.specs.Effects.{need, takes, pushes, set_local, set_top, write, shaped_need}
 use Rattle.definition.specs.Tests.{reading, reading_test, is_blind, other_tests, fits_declared}
 use Rattle.definition.specs.Walk.{State as AnyState, height, after, floor_test, need_test, height_test, tests, examine}
 use Rattle.shapes.specs.Model.{value_of}
-use Rattle.frame.specs.Model.{value_at, state_of, stack_of, replaced, with_local}
+use Rattle.frame.specs.Model.{value_at, state_of, stack_of, replaced}
 use Rattle.frame.specs.declared.State.{State}
-use Rattle.shapes.specs.declared.Value.{Value}
 use Rattle.shapes.proofs.Lists.{down-length}
 use Rattle.frame.proofs.Stores.{model}
 use Rattle.answer.specs.declared.Verdict.{Verdict}
-use Rattle.answer.specs.declared.Verdict.TheVariants.{Passed, Refused}
-use Rattle.answer.specs.declared.Refusal.TheVariants.{LimitPassed, StackUnderflow, LocalTypeMismatch}
 use Rattle.rules.specs.declared.Rule.{Rule}
-use Rattle.answer.specs.Answer.{refusal, is_none, fields}
-use Rattle.rules.specs.Answers.{result_of}
+use Rattle.answer.specs.Answer.{refusal, is_none}
 use Rattle.rules.specs.Rules.{own_tests, Moves, Rules, Roomed, Stepped}
 use Rattle.rules.proofs.Tests.{is_none_eq, not_none}
-use Rattle.rules.proofs.Rules.{first_stops}
 
 -- ── Limit 5 ───────────────────────────────────────────────────────────────────────────────
 

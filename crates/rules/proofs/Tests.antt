@@ -1,23 +1,22 @@
 -- Laws of the tests of operands, as the branches of the code know them.
 -- Assumes nothing.
-use mathlib.Core.Path.{◌≡◌, refl, sym, ap, ap₂, subst, ◌∙◌}
+use mathlib.Core.Path.{◌≡◌, refl, sym, ap, subst, ◌∙◌}
 use mathlib.Core.Bool.{Bool, true, false, ◌&&◌, ◌||◌}
 use mathlib.Core.Option.{Option, none, some}
-use mathlib.Core.List.{List, [], ◌∷◌, ◌++◌, map}
-use Prim.Native.Nat.{ℕ, zero, suc, ◌+◌, ◌*◌, ◌-◌, ◌/◌, ◌%◌, ◌≤◌, ◌<◌}
+use mathlib.Core.List.{List, [], ◌∷◌}
+use Prim.Native.Nat.{ℕ, suc, ◌+◌, ◌*◌, ◌-◌, ◌/◌, ◌%◌, ◌≤◌, ◌<◌}
 use native.Mathlib.Numerals.{add-one}
 use native.Mathlib.Omega.{arith}
 use borrow.Author.Tests.{eq-eqb, ne_eqb, le-leb, lt-leb, le-ltb, lt-ltb}
 use types.Run.{OneOf, miss}
 use denote.Enum.Declared.{tag_of}
 use lib.Dec.{T, eqb, ltb}
-use lib.ListN.{length, get_or, take, length-map}
+use lib.ListN.{length, take, length-map}
 use Rattle.definition.specs.Basics.{first, unless, choose, saturating_add, is_member}
 use Rattle.definition.specs.Shapes.{if_same, scalar, unknown}
-use Rattle.definition.specs.Effects.{width, const_shape}
-use Rattle.definition.specs.Instructions.{Chunk}
+use Rattle.definition.specs.Effects.{const_shape}
 use Rattle.definition.specs.Tests.{field_test, index_test, is_unknown, text_field_test, text_elements, text_index_test, fits_declared, size_test, enum_test, test_if}
-use Rattle.definition.specs.Walk.{floor_test, need_test}
+use Rattle.definition.specs.Walk.{floor_test}
 use Rattle.bytecode.specs.Lists.{tabulate, tabulate-length}
 use Rattle.bytecode.specs.Meaning.{count, enum_at, enums_of, enum_sizes_of, table_header}
 use Rattle.bytecode.specs.Parts.{declared_shape, constant_of}
@@ -32,13 +31,8 @@ use Rattle.shapes.specs.declared.Packed.TheVariants.{Bytes, NotKnown}
 use Rattle.shapes.specs.declared.Shape.{Shape}
 use Rattle.shapes.specs.declared.Shape.TheVariants.{Unknown, Scalar, Composite}
 use Rattle.shapes.specs.contracts.Shape as shape_type
-use Rattle.answer.specs.declared.Verdict.{Verdict}
-use Rattle.answer.specs.declared.Verdict.TheVariants.{Passed, Refused}
-use Rattle.answer.specs.declared.Refusal.TheVariants.{LimitPassed, StackUnderflow, OffsetOutOfBounds, ExpectedComposite, NewCompositeSizeMismatch}
-use Rattle.answer.specs.declared.Refusal.TheVariants.{TextFieldMismatch, LoopFloorBreach, LocalTypeMismatch}
-use Rattle.answer.specs.declared.Refusal.TheVariants.{CallArgMismatch, ArrayStrideMismatch, EnumBodySizeMismatch}
 use Rattle.rules.specs.declared.Read.{Read}
-use Rattle.answer.specs.Answer.{refusal, is_none, fields}
+use Rattle.answer.specs.Answer.{refusal, is_none}
 use Rattle.rules.specs.Rules.{Otherwise}
 
 -- ── Verdicts ──────────────────────────────────────────────────────────────────────────────

@@ -1,8 +1,7 @@
 -- What an examination answers, and the chunk under check.
-use Rattle.std.specs.Prelude.{ℕ, ◌+◌, ◌≤◌, ◌<◌, ◌≡◌, Bool, true, false, List, [], ◌∷◌, get_or}
+use Rattle.std.specs.Prelude.{ℕ, ◌+◌, ◌≤◌, ◌<◌, ◌≡◌, Bool, List, [], get_or}
 use Rattle.std.proofs.Math.Option.{Option, none, some}
 use Rattle.definition.specs.Basics.{Result, pass}
-use Rattle.definition.specs.Instructions.{Chunk}
 use Rattle.definition.specs.Tests.{reading, is_blind}
 use Rattle.definition.specs.Walk.{State as AnyState, examine}
 use Rattle.value_layout.specs.Sizes.{Wide}

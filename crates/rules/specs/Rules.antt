@@ -1,14 +1,14 @@
 -- The rule of one instruction: what the definition says of it after the tests of 12 and 5.
 use Rattle.std.specs.Prelude.{ℕ, ◌+◌, ◌-◌, ◌≤◌, ◌<◌, ◌≡◌, ◌≢◌, ◌⊎◌, Bool, true, false, List, [], ◌∷◌, ◌++◌, map, replicate, get_or}
 use Rattle.std.proofs.Math.Option.{Option, none, some}
-use Rattle.definition.specs.Basics.{Result, first, pass}
+use Rattle.definition.specs.Basics.{first, pass}
 use Rattle.definition.specs.Shapes.{Shape as AnyShape, unknown, scalar, composite}
 use Rattle.definition.specs.Instructions.{Instr, Chunk, plain, shaped, jump, PopN, SetLocal, Call, NewFlat, NewBoxed, GetFlat, GetBoxed, GetIndex}
 use Rattle.definition.specs.Tests.{no_flat, reading, reading_test, other_tests, is_blind, places_test}
 use Rattle.definition.specs.Effects.{takes, pushes, shape_of, set_local}
 use Rattle.definition.specs.Walk.{State as AnyState, height, after, height_test}
 use Rattle.shapes.specs.Model.{value_of}
-use Rattle.frame.specs.Model.{state_of, stack_of, locals_of}
+use Rattle.frame.specs.Model.{stack_of, locals_of}
 use Rattle.frame.specs.declared.State.{State}
 use Rattle.shapes.specs.declared.Value.{Value}
 use Rattle.shapes.specs.declared.Shape.{Shape}
@@ -17,7 +17,7 @@ use Rattle.rules.specs.declared.Read.{Read}
 use Rattle.answer.specs.declared.Verdict.{Verdict}
 use Rattle.answer.specs.declared.Verdict.TheVariants.{Passed}
 use Rattle.rules.specs.declared.Rule.{Rule}
-use Rattle.answer.specs.Answer.{refusal, fields}
+use Rattle.answer.specs.Answer.{refusal}
 use Rattle.rules.specs.Answers.{result_of}
 
 -- an instruction's own tests, limit 6 among them

@@ -5,16 +5,16 @@ use mathlib.Core.Bool.{Bool, true, false, ◌&&◌}
 use mathlib.Core.Logic.{⊎_elim}
 use mathlib.Core.Option.{Option, none, some}
 use mathlib.Core.List.{List, [], ◌∷◌}
-use Prim.Native.Nat.{ℕ, zero, suc, ◌+◌, ◌≤◌, ◌<◌}
+use Prim.Native.Nat.{ℕ, ◌≤◌, ◌<◌}
 use native.Mathlib.Omega.{arith}
 use types.Run.{OneOf}
 use denote.Enum.Declared.{tag_of}
-use borrow.Author.Tests.{eqb-true, eq-eqb, ne_eqb, le-ltb, lt-ltb}
+use borrow.Author.Tests.{eqb-true, eq-eqb, le-ltb, lt-ltb}
 use lib.Dec.{T, eqb, ltb}
 use lib.ListN.{length, get_or, take}
 use lib.Seq.{get_or-take, length-take-le, ext_get_or}
-use Rattle.definition.specs.Shapes.{Shape as AnyShape, unknown, scalar, composite, same_places, same_text, same_shape, same_shapes, if_same}
-use Rattle.definition.specs.Shapes.{join_text, join, join_all}
+use Rattle.definition.specs.Shapes.{Shape as AnyShape, unknown, scalar, composite, same_places, same_text, same_shape, if_same}
+use Rattle.definition.specs.Shapes.{join_text, join}
 use Rattle.shapes.specs.declared.Shape.{Shape}
 use Rattle.shapes.specs.declared.Shape.TheVariants.{Unknown, Scalar, Composite}
 use Rattle.shapes.specs.Model.{places_of, shape_of, plain_of}

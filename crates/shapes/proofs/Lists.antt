@@ -2,14 +2,14 @@
 -- Assumes nothing.
 use mathlib.Core.Path.{◌≡◌, refl, sym, ap, ap₂, subst, ◌∙◌}
 use mathlib.Core.Logic.{◌⊎◌, inl, inr, ⊎_elim}
-use mathlib.Core.List.{List, [], ◌∷◌, ◌++◌, append_assoc}
+use mathlib.Core.List.{List, ◌∷◌, ◌++◌, append_assoc}
 use Prim.Native.Nat.{ℕ, zero, suc, ◌+◌, ◌*◌, ◌-◌, ◌≤◌, ◌<◌}
 use native.Mathlib.Nat.{zero-add, le_antisymm, add-zero, add-suc}
 use native.Mathlib.Decide.{dec_lt}
 use native.Mathlib.Numerals.{add-one}
 use native.Mathlib.Omega.{arith}
 use lib.ListN.{length, get_or, set, take, drop, replicate, length-take, length-drop, get_or-append, get_or-eq_default}
-use lib.Seq.{paste, paste-suc, get_or-drop, get_or-take, get_or-append-add, length-take-le, length-paste, length_paste_head, drop_at, take_at, take-append-le, ext_get_or}
+use lib.Seq.{paste, paste-suc, get_or-drop, get_or-take, get_or-append-add, length-take-le, length-paste, length_paste_head, drop_at, take_at, ext_get_or}
 use Rattle.shapes.specs.Tabulated.{down, up}
 
 pub lt_or_ge : (k n : ℕ) → (k < n) ⊎ (n ≤ k)

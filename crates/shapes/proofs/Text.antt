@@ -2,23 +2,22 @@
 -- Assumes nothing.
 use mathlib.Core.Path.{◌≡◌, refl, sym, ap, ap₂, subst, ◌∙◌}
 use mathlib.Core.Bool.{Bool, true, false, ◌&&◌, ◌||◌}
-use mathlib.Core.Logic.{◌⊎◌, inl, inr, ⊎_elim}
+use mathlib.Core.Logic.{⊎_elim}
 use mathlib.Core.Option.{Option, none, some}
 use mathlib.Core.List.{List, [], ◌∷◌, ◌++◌, append-nil, append_assoc, reverse, reverse_aux}
-use Prim.Native.Nat.{ℕ, zero, suc, ◌+◌, ◌*◌, ◌-◌, ◌/◌, ◌%◌, ◌^◌, ◌≤◌, ◌<◌, min}
-use native.Mathlib.Nat.{le_antisymm, mul-le-mul_right, div-add-mod'}
+use Prim.Native.Nat.{ℕ, zero, suc, ◌+◌, ◌*◌, ◌-◌, ◌/◌, ◌%◌, ◌≤◌, ◌<◌, min}
+use native.Mathlib.Nat.{mul-le-mul_right, div-add-mod'}
 use types.Run.{OneOf}
 use denote.Enum.Declared.{tag_of}
 use Rattle.shapes.specs.contracts.Shape.{the_type}
 use native.Mathlib.Numerals.{add-one}
-use native.Mathlib.Decide.{dec_lt}
 use native.Mathlib.Omega.{arith}
 use borrow.Author.Tests.{eq-eqb, ne_eqb, le-leb, lt-leb, le-ltb, lt-ltb}
 use lib.Dec.{T, leb, ltb, eqb}
-use lib.ListN.{length, get_or, set, take, length-append, length-take, get_or-eq_default}
+use lib.ListN.{length, get_or, set, take, length-append}
 use lib.Seq.{take-suc, take-suc-set, length-take-le}
 use Rattle.definition.specs.Basics.{saturating_add, is_member}
-use Rattle.definition.specs.Shapes.{Shape as AnyShape, unknown, scalar, composite, scalar_widths, same_places, same_text}
+use Rattle.definition.specs.Shapes.{Shape as AnyShape, unknown, scalar, composite, same_places, same_text}
 use Rattle.definition.specs.Instructions.{Chunk}
 use Rattle.definition.specs.Effects.{width, keep_if, places_within, shift, before_text, built_places, add_known, packed, nested_places, if_places, elements_alike, element_places}
 use Rattle.shapes.specs.Text.{Holds, bytes, own, Took, packed_of}
@@ -29,7 +28,7 @@ use Rattle.shapes.specs.Model.{shape_of, places_of}
 use Rattle.shapes.specs.Tabulated.{down, up}
 use Rattle.shapes.specs.declared.Shape.{Shape}
 use Rattle.shapes.specs.declared.Shape.TheVariants.{Unknown, Scalar, Composite}
-use Rattle.shapes.proofs.Lists.{lt_or_ge, down-same, up_same}
+use Rattle.shapes.proofs.Lists.{lt_or_ge, down-same}
 
 -- ── Held places ──────────────────────────────────────────────────────────────────────────
 

@@ -1,5 +1,5 @@
 -- Where the instructions of a chunk stand among all: within the sheets, where the tables hold a module.
-use Rattle.std.specs.Prelude.{◌≡◌, List, ℕ, ◌+◌, ◌-◌, ◌≤◌, length, get_or}
+use Rattle.std.specs.Prelude.{◌≡◌, List, ℕ, ◌+◌, ◌≤◌, length, get_or}
 use Rattle.std.proofs.Common.{◌∙◌, arith}
 use Rattle.definition.specs.Module.{all_ops}
 use Rattle.definition.specs.Read.{Reader}

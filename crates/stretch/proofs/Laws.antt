@@ -2,14 +2,14 @@
 -- Assumes nothing.
 use mathlib.Core.Path.{◌≡◌, refl, sym, ap, subst, ◌∙◌}
 use mathlib.Core.Logic.{◌≢◌, ⊎_elim}
-use mathlib.Core.Bool.{Bool, true, false, true≢false}
+use mathlib.Core.Bool.{Bool, true, false}
 use mathlib.Core.Option.{Option, none, some}
-use mathlib.Core.List.{List, [], ◌∷◌}
+use mathlib.Core.List.{List}
 use Prim.Native.Nat.{ℕ, suc, ◌+◌, ◌≤◌, ◌<◌}
 use native.Mathlib.Numerals.{add-one}
 use native.Mathlib.Omega.{arith}
 use borrow.Author.Tests.{lt-ltb, le-ltb, ne_eqb}
-use lib.ListN.{length, set}
+use lib.ListN.{set}
 use lib.Dec.{eqb}
 use Rattle.definition.specs.Basics.{Result, ok, refused, ◌>>=◌, pass}
 use Rattle.definition.specs.Instructions.{Instr as AnyInstr, Chunk, Control, onward, stops, returns, resets, end_if, end_loop, ends, if_to, else_to, loop_to}
@@ -18,8 +18,8 @@ use Rattle.definition.specs.Nesting.{else_at}
 use Rattle.definition.specs.Tests.{reading, is_blind}
 use Rattle.definition.specs.Walk.{State as AnyState, Sheets, Walker, Breaks as AnyBreaks, height, mark, mark_blind, add_break, examine, walk_arms, walk_instr}
 use Rattle.theorems.specs.Cover.{no_false}
-use Rattle.bytecode.specs.Meaning.{chunk_of, first_op, op_count, op_at, table_instr_at, chunk_base}
-use Rattle.bytecode.specs.Parts.{any_instr_of, InstrIs}
+use Rattle.bytecode.specs.Meaning.{chunk_of, op_at, table_instr_at, chunk_base}
+use Rattle.bytecode.specs.Parts.{InstrIs}
 use Rattle.bytecode.specs.declared.Instr.{Instr}
 use Rattle.frame.specs.declared.State.{State}
 use Rattle.frame.specs.Model.{state_of, stack_of, value_at}
@@ -27,10 +27,9 @@ use Rattle.shapes.proofs.Lists.{down-length, lt_or_ge}
 use Rattle.rules.specs.declared.Ctx.{Ctx}
 use Rattle.answer.specs.declared.Verdict.{Verdict}
 use Rattle.answer.specs.declared.Verdict.TheVariants.{Passed}
-use Rattle.answer.specs.Answer.{refusal, is_none, fields}
+use Rattle.answer.specs.Answer.{refusal, is_none}
 use Rattle.rules.specs.Answers.{values_of, result_of, Examined, Of}
-use Rattle.stretch.specs.declared.Ran.{Ran}
-use Rattle.stretch.specs.Stretch.{straight, Straight, leads, sheets_of, marked, Unfolds, Comes, RanIs}
+use Rattle.stretch.specs.Stretch.{straight, leads, sheets_of, marked, Unfolds, Comes, RanIs}
 use Rattle.stretch.proofs.Codes.{straight-leads, leads_here}
 
 -- ── Straight codes ────────────────────────────────────────────────────────────────────────

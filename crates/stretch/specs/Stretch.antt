@@ -7,7 +7,7 @@ use Rattle.bytecode.specs.Meaning.{chunk_of, op_at, table_instr_at}
 use Rattle.frame.specs.declared.State.{State}
 use Rattle.frame.specs.Model.{state_of}
 use Rattle.rules.specs.declared.Ctx.{Ctx}
-use Rattle.answer.specs.Answer.{refusal, is_none, fields}
+use Rattle.answer.specs.Answer.{refusal, is_none}
 use Rattle.rules.specs.Answers.{values_of}
 use Rattle.stretch.specs.declared.Ran.{Ran}
 

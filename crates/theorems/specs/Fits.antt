@@ -10,7 +10,7 @@ use native.Mathlib.Omega.{arith}
 use Rattle.std.proofs.lemmas.Bool.{eqb-false}
 use Rattle.std.proofs.Math.Dec.{leb}
 use Rattle.std.proofs.Math.ListN.{length, get_elem?, length-append}
-use Rattle.definition.specs.Basics.{ok, refused, ◌>>=◌, is_member, first, unless, pass}
+use Rattle.definition.specs.Basics.{ok, is_member, unless, pass}
 use Rattle.definition.specs.Shapes.{Wire, top, scalar_w, flat_w}
 use Rattle.definition.specs.Instructions.{Sig}
 use Rattle.definition.specs.Ops.{Row, ops, Op, instr, named_kind, has_kind}

@@ -1,11 +1,10 @@
 -- Need and net: what they say of the height, and that they hang on the name and operands alone.
-use Rattle.std.specs.Prelude.{◌≡◌, refl, Bool, true, false, ◌||◌, List, [], ◌∷◌, ◌++◌, map, ℕ, ◌+◌, ◌-◌, ◌≤◌, leb, eqb, length, drop}
-use Rattle.std.proofs.Common.{sym, ap, ◌∙◌, arith, length-append, length-drop}
-use Rattle.std.proofs.Math.ListN.{get_elem?}
+use Rattle.std.specs.Prelude.{◌≡◌, refl, Bool, true, false, List, [], ◌++◌, map, ◌+◌, ◌-◌, ◌≤◌, length, drop}
+use Rattle.std.proofs.Common.{arith, length-append, length-drop}
 use Rattle.std.proofs.lemmas.List.{length-map}
 use Rattle.definition.specs.Shapes.{Shape}
 use Rattle.definition.specs.Instructions.{Chunk, Instr, Shaped, Flat, FlatNested, ElemFlat, ElemNested}
-use Rattle.definition.specs.Effects.{Pushed, effect, need, takes, with_bounds, with_flag, shaped_pushes, pushes, shape_of}
+use Rattle.definition.specs.Effects.{Pushed, need, takes, with_bounds, shaped_pushes, pushes, shape_of}
 use Rattle.definition.specs.Walk.{State, height, after}
 use Rattle.theorems.specs.Facts.{takes-need}
 

@@ -1,6 +1,6 @@
 -- A listing that is read is written as the same bytes; what is written is read as the same module; and the modules that the writer writes are those that
 -- some listing gives.
-use Rattle.std.specs.Prelude.{◌≡◌, Bool, not, ◌&&◌, ℕ, suc, ◌+◌, ◌≤◌, ◌<◌, eqb, length, drop}
+use Rattle.std.specs.Prelude.{◌≡◌, Bool, not, ◌&&◌, ℕ, suc, ◌≤◌, ◌<◌, eqb, length, drop}
 use Rattle.std.proofs.Math.Path.{refl, ap}
 use Rattle.std.proofs.Common.{sym, ◌∙◌, subst, arith, length-append, length-drop}
 use Rattle.std.proofs.Math.Bool.{true, false}

@@ -1,5 +1,5 @@
-use mathlib.Core.Path.{◌≡◌, sym, ap, subst, ◌∙◌}
-use Prim.Native.Nat.{ℕ, ◌≤◌}
+use mathlib.Core.Path.{◌≡◌, sym, ap, ◌∙◌}
+use Prim.Native.Nat.{◌≤◌}
 use Rattle.answer.proofs.Laws.{passed_yes, passed_no}
 use Rattle.definition.specs.Shapes.{Shape as AnyShape}
 use Rattle.definition.specs.Effects.{need}
@@ -26,10 +26,10 @@ set_local-requires c = let a = c.args in
 
 pub returns-then-i-eq-SET_LOCAL : goal.returns-then-i-eq-SET_LOCAL
 returns-then-i-eq-SET_LOCAL c = let a = c.args in (
-      search rules,
-      stepped_as (chunk_of a.t.now a.x.chunk) a.x.locals a.ip _ (state_of a.x.locals (at a.height a.slots.now a.places.now))
-          _ _ _ (any_instr_of a.i) (is_set_local a.i c.if-i-eq-SET_LOCAL.true) c.set_local.ensures.1,
-    )
+  search rules,
+  stepped_as (chunk_of a.t.now a.x.chunk) a.x.locals a.ip _ (state_of a.x.locals (at a.height a.slots.now a.places.now))
+      _ _ _ (any_instr_of a.i) (is_set_local a.i c.if-i-eq-SET_LOCAL.true) c.set_local.ensures.1,
+)
 
 pub rule_of-r-requires : goal.rule_of-r-requires
 rule_of-r-requires c = record { of = c.requires.of; long = (c.requires.long.0, c.requires.long.1, c.if-i-eq-SET_LOCAL.false, c.requires.long.2, c.requires.long.3, c.requires.long.4) }
@@ -44,15 +44,15 @@ check_room-verdict-requires c = let a = c.args in
 
 pub returns-in_default : goal.returns-in_default
 returns-in_default c = let a = c.args in (
-      search rules,
-      record {
-        result = stopped (chunk_of a.t.now a.x.chunk) (any_instr_of a.i) a.x.locals a.ip (at a.height a.slots.now a.places.now)
-            c.rule_of-r.result c.rule_of-r.ensures c.check_room-verdict.result c.check_room-verdict.ensures (state_of a.x.locals (at a.height a.slots.now
-            a.places.now)) (sym (passed_no _ c.in_default.is));
-        blind = c.rule_of-r.ensures.blind;
-        low = c.requires.long.4;
-      },
-    )
+  search rules,
+  record {
+    result = stopped (chunk_of a.t.now a.x.chunk) (any_instr_of a.i) a.x.locals a.ip (at a.height a.slots.now a.places.now)
+        c.rule_of-r.result c.rule_of-r.ensures c.check_room-verdict.result c.check_room-verdict.ensures (state_of a.x.locals (at a.height a.slots.now
+        a.places.now)) (sym (passed_no _ c.in_default.is));
+    blind = c.rule_of-r.ensures.blind;
+    low = c.requires.long.4;
+  },
+)
 
 pub replace-after-requires : goal.replace-after-requires
 replace-after-requires c = let a = c.args in

@@ -5,7 +5,6 @@ use Rattle.definition.specs.Effects.{shape_of, returned}
 use Rattle.bytecode.specs.Meaning.{known_sigs}
 use Rattle.frame.specs.Model.{at, state_of}
 use Rattle.rules.proofs.Calls.{call_rules}
-use borrow.Author.Rules.{rules}
 use Rattle.apply.proofs.call.Goals as goal
 
 pub returns : goal.returns

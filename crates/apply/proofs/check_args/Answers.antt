@@ -1,13 +1,13 @@
 use mathlib.Core.Path.{◌≡◌, ap, ap₂, ◌∙◌}
-use Prim.Native.Nat.{ℕ, ◌-◌, ◌≤◌, ◌<◌}
+use Prim.Native.Nat.{ℕ, ◌≤◌, ◌<◌}
 use Prim.Native.Nat.{min}
 use mathlib.Core.List.{◌∷◌, [], reverse, map}
 use mathlib.Core.Logic.{⊎_elim}
 use mathlib.Core.Option.{some, none}
-use lib.ListN.{length, get_or, take, drop}
+use lib.ListN.{length, get_or, take}
 use Rattle.definition.specs.Shapes.{unknown, from_wire}
 use Rattle.definition.specs.Module.{no_sig}
-use Rattle.definition.specs.Tests.{args_test, fits_declared}
+use Rattle.definition.specs.Tests.{fits_declared}
 use Rattle.bytecode.specs.Meaning.{known_sigs}
 use Rattle.shapes.specs.Model.{places_of}
 use Rattle.frame.specs.Model.{at, stack_of, value_at}

@@ -4,7 +4,6 @@ use mathlib.Core.Option.{some}
 use mathlib.Core.List.{◌∷◌, []}
 use Rattle.answer.specs.Answer.{refusal, fields}
 use Rattle.rules.proofs.Tests.{sized_open, sized_same, sized_not}
-use borrow.Author.Rules.{rules}
 use Rattle.apply.proofs.check_packed_size.Goals as goal
 
 pub returns-in_default : goal.returns-in_default

@@ -6,7 +6,7 @@ use Rattle.bytecode.specs.Meaning.{chunk_of}
 use Rattle.bytecode.specs.Parts.{any_instr_of}
 use Rattle.frame.specs.Model.{at, state_of, value_at}
 use Rattle.shapes.proofs.Lists.{down-length}
-use Rattle.answer.specs.Answer.{refusal, fields}
+use Rattle.answer.specs.Answer.{refusal}
 use Rattle.rules.proofs.Tests.{is_none_eq}
 use Rattle.rules.proofs.Numbers.{effect_of}
 use Rattle.rules.proofs.Steps.{examine_step, examine_stop}

@@ -5,7 +5,6 @@ use mathlib.Core.Path.{◌∙◌}
 use Prim.Native.Nat.{ℕ}
 use Rattle.rules.proofs.Looks.{looks_local, looks_under, looks_top}
 use native.Mathlib.Omega.{arith}
-use borrow.Author.Rules.{rules}
 use Rattle.apply.proofs.looks_at.Goals as goal
 
 pub returns-then-code-eq-GET_LOCAL : goal.returns-then-code-eq-GET_LOCAL

@@ -2,7 +2,6 @@ use mathlib.Core.Path.{ap, ◌∙◌}
 use Rattle.definition.specs.Tests.{is_unknown}
 use Rattle.frame.specs.Model.{at, stack_of}
 use Rattle.rules.proofs.Codes.{mark_index, mark_part, mark_flat, mark_nested, unmarked}
-use borrow.Author.Rules.{rules}
 use Rattle.apply.proofs.met_unknown.Goals as goal
 
 pub returns-in-10 : goal.returns-in-10

@@ -1,7 +1,6 @@
 use mathlib.Core.Path.{sym, ◌∙◌}
 use Rattle.frame.specs.Model.{at, state_of}
 use Rattle.rules.proofs.Rules.{enum_rules, size_refused, body_rules}
-use borrow.Author.Rules.{rules}
 use Rattle.apply.proofs.new_flat.Goals as goal
 
 pub returns-then-kind-eq-ENUM : goal.returns-then-kind-eq-ENUM

@@ -10,7 +10,6 @@ use Rattle.frame.specs.Model.{at, state_of}
 use Rattle.rules.specs.Rules.{Rules, Looks}
 use Rattle.rules.proofs.Numbers.{locals_fit, effect_of}
 use Rattle.rules.proofs.Codes.{as_call, as_new, new_kind, call_need, new_need}
-use borrow.Author.Rules.{rules}
 use Rattle.apply.proofs.rule_of.Goals as goal
 
 pub call-requires : goal.call-requires

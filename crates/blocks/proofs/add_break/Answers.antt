@@ -1,5 +1,5 @@
 -- One more break, by what the breaks are.
-use mathlib.Core.Path.{◌≡◌, ap, ◌∙◌}
+use mathlib.Core.Path.{ap, ◌∙◌}
 use Rattle.definition.specs.Walk.{joined}
 use Rattle.frame.specs.Model.{at}
 use Rattle.blocks.specs.Outcomes.{breaks_in, pending_of}

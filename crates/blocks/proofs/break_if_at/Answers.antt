@@ -1,12 +1,10 @@
-use mathlib.Core.Path.{◌≡◌, refl, sym, ap, subst, ◌∙◌}
+use mathlib.Core.Path.{refl, sym, subst, ◌∙◌}
 use Prim.Native.Nat.{ℕ, ◌+◌, ◌-◌, ◌≤◌}
 use native.Mathlib.Omega.{arith}
 use Rattle.frame.specs.Model.{at}
 use Rattle.blocks.specs.Outcomes.{breaks_in, onward_in}
 use Rattle.blocks.specs.declared.Breaks.{Breaks}
 use Rattle.blocks.specs.declared.Flow.TheVariants.{Falls}
-use Rattle.definition.specs.Effects.{need}
-use Rattle.rules.proofs.Numbers.{effect_of}
 use Rattle.rules.proofs.Tests.{is_none_eq}
 use Rattle.blocks.specs.Visits.{chunk_in, instr_in}
 use Rattle.blocks.proofs.Guards as Guards

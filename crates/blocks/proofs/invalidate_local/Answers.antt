@@ -1,7 +1,6 @@
 -- SetLocal's local is forgotten; any other instruction forgets none.
-use mathlib.Core.Path.{◌≡◌, refl, sym, ap, ◌∙◌}
+use mathlib.Core.Path.{sym, ap, ◌∙◌}
 use mathlib.Core.List.{List}
-use native.Mathlib.Omega.{arith}
 use Rattle.definition.specs.Shapes.{Shape}
 use Rattle.definition.specs.Effects.{set_local}
 use Rattle.definition.specs.Walk.{with_locals}

@@ -1,9 +1,6 @@
 -- The locals that are left to forget are those from p on.
-use mathlib.Core.Path.{◌≡◌, refl}
-use Prim.Native.Nat.{ℕ, ◌-◌, ◌≤◌}
-use Rattle.frame.specs.Model.{at, Long}
-use Rattle.blocks.specs.Visits.{chunk_in}
-use Rattle.blocks.proofs.Laws.{Forgetting, forgetting_more, forgetting_end}
+use mathlib.Core.Path.{refl}
+use Rattle.blocks.proofs.Laws.{forgetting_more, forgetting_end}
 use borrow.Author.Rules.{rules}
 use native.Mathlib.Omega.{arith}
 use Rattle.blocks.proofs.invalidate_written_locals.Goals as goal

@@ -1,11 +1,8 @@
 -- The locals that are left to forget are those from p on.
-use mathlib.Core.Path.{◌≡◌, refl}
 use Prim.Native.Nat.{ℕ, ◌-◌, ◌≤◌}
 use Rattle.frame.specs.Model.{at, Long}
 use Rattle.blocks.specs.Visits.{chunk_in}
-use Rattle.blocks.proofs.Laws.{Forgetting, forgetting_more, forgetting_end}
-use borrow.Author.Rules.{rules}
-use native.Mathlib.Omega.{arith}
+use Rattle.blocks.proofs.Laws.{Forgetting}
 use Rattle.blocks.proofs.invalidate_written_locals.Given as goal
 
 abbrev pub invariant-loop-p : goal.invariant-loop-p

@@ -1,9 +1,7 @@
 -- The ends of two arms: the case of each.
-use mathlib.Core.Path.{◌≡◌, refl, subst, sym, ap, ◌∙◌}
-use Rattle.definition.specs.Walk.{State as AnyState}
-use Rattle.frame.specs.Model.{at, state_of}
-use Rattle.blocks.specs.Outcomes.{Open, breaks_in, outcome_in, walked_of, flow_of}
-use Rattle.blocks.specs.declared.Flow.{Flow}
+use mathlib.Core.Path.{refl, subst, ◌∙◌}
+use Rattle.frame.specs.Model.{at}
+use Rattle.blocks.specs.Outcomes.{Open, breaks_in, outcome_in}
 use Rattle.blocks.proofs.Laws.{join_second, join_first, join_both, same_walked}
 use borrow.Author.Rules.{rules}
 use Rattle.blocks.proofs.join_ends.Goals as goal

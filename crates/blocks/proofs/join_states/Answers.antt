@@ -1,10 +1,10 @@
 -- Two ends: joined where their heights are equal, else 10.
-use mathlib.Core.Path.{◌≡◌, refl, sym, subst}
+use mathlib.Core.Path.{◌≡◌, refl, subst}
 use Prim.Native.Nat.{ℕ}
 use Rattle.definition.specs.Walk.{join_states}
 use Rattle.frame.specs.Model.{at, state_of}
 use Rattle.blocks.specs.declared.Flow.TheVariants.{Falls}
-use Rattle.blocks.specs.Outcomes.{breaks_in, outcome_in}
+use Rattle.blocks.specs.Outcomes.{breaks_in}
 use Rattle.blocks.proofs.Laws.{join_equal, join_unequal}
 use borrow.Author.Rules.{rules}
 use Rattle.blocks.proofs.join_states.Goals as goal

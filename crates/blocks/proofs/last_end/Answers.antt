@@ -1,5 +1,5 @@
 -- After the last pass, by how its body ended.
-use mathlib.Core.Path.{◌≡◌, ◌∙◌, refl, sym, subst}
+use mathlib.Core.Path.{◌∙◌, sym, subst}
 use Prim.Native.Nat.{ℕ, ◌≤◌}
 use Rattle.frame.specs.Model.{at}
 use Rattle.blocks.specs.Outcomes.{outcome_in, leaving_of}

@@ -1,14 +1,12 @@
 -- The Else of an If is the instruction before its target, if it stands after the If.
-use mathlib.Core.Path.{◌≡◌, refl, sym, ap, subst, ◌∙◌}
+use mathlib.Core.Path.{ap, ◌∙◌}
 use native.Mathlib.Omega.{arith}
-use Prim.Native.Nat.{ℕ, ◌+◌, ◌-◌}
-use Rattle.definition.specs.Instructions.{Control, else_to}
+use Prim.Native.Nat.{ℕ, ◌-◌}
 use Rattle.definition.specs.Nesting.{else_of}
 use Rattle.blocks.specs.Outcomes.{layout_else}
 use Rattle.stretch.specs.Stretch.{leads}
 use Rattle.stretch.proofs.Codes.{instr_here, no_instr, leads_here}
 use Rattle.blocks.proofs.Laws.{else_behind, else_past, else_there, else_other, not_else}
-use borrow.Author.Rules.{rules}
 use Rattle.blocks.proofs.layout_of.Goals as goal
 
 pub returns-then-target-ip : goal.returns-then-target-ip

@@ -1,9 +1,8 @@
 -- By the code of an instruction that opens no block and does not lead onward.
-use mathlib.Core.Path.{◌≡◌, refl, sym, ap, subst, ◌∙◌}
-use Prim.Native.Nat.{ℕ, ◌≤◌}
+use mathlib.Core.Path.{ap, ◌∙◌}
+use Prim.Native.Nat.{ℕ}
 use native.Mathlib.Omega.{arith}
 use Rattle.bytecode.specs.Meaning.{locals_low}
-use Rattle.definition.specs.Instructions.{Control}
 use Rattle.stretch.specs.Stretch.{leads}
 use Rattle.blocks.specs.Visits.{visit_in}
 use Rattle.blocks.specs.Outcomes.{breaks_in, onward_in}

@@ -1,4 +1,4 @@
-use mathlib.Core.Path.{◌≡◌, ap, ◌∙◌}
+use mathlib.Core.Path.{ap, ◌∙◌}
 use Rattle.definition.specs.Walk.{leave}
 use Rattle.blocks.specs.Outcomes.{breaks_in, breaks_of}
 use borrow.Author.Rules.{rules}

@@ -1,7 +1,7 @@
 -- What stands after a loop, by its breaks.
-use mathlib.Core.Path.{◌≡◌, ap, ◌∙◌}
+use mathlib.Core.Path.{ap, ◌∙◌}
 use Rattle.definition.specs.Basics.{ok}
-use Rattle.definition.specs.Walk.{State as AnyState, Left as AnyLeft}
+use Rattle.definition.specs.Walk.{State as AnyState}
 use Rattle.blocks.proofs.Laws.{leave_none, leave_joined, leave_unequal}
 use Rattle.blocks.specs.Outcomes.{breaks_in, leaving_of, numbers}
 use Rattle.rules.specs.Answers.{values_of}

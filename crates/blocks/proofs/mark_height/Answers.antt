@@ -2,7 +2,6 @@ use mathlib.Core.Path.{ap}
 use Prim.Native.Nat.{ℕ}
 use lib.ListN.{set}
 use Rattle.blocks.proofs.Laws.{suc_is}
-use borrow.Author.Rules.{rules}
 use Rattle.blocks.proofs.mark_height.Goals as goal
 
 pub returns : goal.returns

@@ -1,8 +1,7 @@
-use mathlib.Core.Path.{◌≡◌, refl, sym, ap}
+use mathlib.Core.Path.{refl, sym, ap}
 use Rattle.definition.specs.Basics.{◌>>=◌}
 use Rattle.blocks.specs.declared.Leaving.{Leaving}
 use Rattle.blocks.specs.Outcomes.{breaks_in, left_in, breaks_of, onward_of, leaving_of, after_loop}
-use borrow.Author.Rules.{rules}
 use Rattle.blocks.proofs.onward_after.Goals as goal
 
 pub returns-in-Stopped : goal.returns-in-Stopped

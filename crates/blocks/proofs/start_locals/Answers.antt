@@ -1,12 +1,8 @@
-use mathlib.Core.Path.{◌≡◌, refl, ap, ◌∙◌}
-use Prim.Native.Nat.{ℕ, ◌-◌, ◌≤◌}
+use mathlib.Core.Path.{refl, ap, ◌∙◌}
 use Rattle.definition.specs.Shapes.{Shape}
-use Rattle.definition.specs.Walk.{params}
-use Rattle.bytecode.specs.Meaning.{chunk_of}
-use Rattle.frame.specs.Model.{at, Long, state_of, with_local}
+use Rattle.frame.specs.Model.{at, state_of, with_local}
 use Rattle.frame.proofs.Stores.{empty_law}
-use Rattle.blocks.proofs.Start.{Starting, starting_none, starting_more, starting_all, param_is}
-use borrow.Author.Rules.{rules}
+use Rattle.blocks.proofs.Start.{starting_none, starting_more, starting_all, param_is}
 use native.Mathlib.Omega.{arith}
 use Rattle.blocks.proofs.start_locals.Goals as goal
 

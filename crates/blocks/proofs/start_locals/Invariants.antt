@@ -1,13 +1,8 @@
-use mathlib.Core.Path.{◌≡◌, refl, ap, ◌∙◌}
-use Prim.Native.Nat.{ℕ, ◌-◌, ◌≤◌}
-use Rattle.definition.specs.Shapes.{Shape}
+use Prim.Native.Nat.{◌-◌, ◌≤◌}
 use Rattle.definition.specs.Walk.{params}
 use Rattle.bytecode.specs.Meaning.{chunk_of}
-use Rattle.frame.specs.Model.{at, Long, state_of, with_local}
-use Rattle.frame.proofs.Stores.{empty_law}
-use Rattle.blocks.proofs.Start.{Starting, starting_none, starting_more, starting_all, param_is}
-use borrow.Author.Rules.{rules}
-use native.Mathlib.Omega.{arith}
+use Rattle.frame.specs.Model.{at, Long}
+use Rattle.blocks.proofs.Start.{Starting}
 use Rattle.blocks.proofs.start_locals.Given as goal
 
 abbrev pub invariant-loop-i : goal.invariant-loop-i

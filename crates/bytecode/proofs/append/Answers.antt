@@ -1,10 +1,8 @@
 -- Word after word of the row; then the count.
-use Prim.Native.Nat.{◌+◌, ◌*◌, ◌≤◌, ◌<◌, ◌-◌}
-use mathlib.Core.Path.{◌≡◌, refl, sym, ◌∙◌, subst}
+use mathlib.Core.Path.{refl, ◌∙◌}
 use native.Mathlib.Omega.{arith}
-use borrow.Author.Rules.{rules}
-use lib.ListN.{length, get_or, set, length-set}
-use Rattle.bytecode.specs.Tables.{tables, stride, base, cap, size, row_at, product, row_fits, stride_small, cap_small, Partly, partly_start, partly_more, partly_done, Appended}
+use lib.ListN.{get_or, length-set}
+use Rattle.bytecode.specs.Tables.{stride, product, row_fits, stride_small, cap_small, partly_start, partly_more, partly_done}
 use Rattle.bytecode.proofs.append.Goals as goal
 
 pub overflow_mul-at : goal.overflow_mul-at

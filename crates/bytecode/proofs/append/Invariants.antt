@@ -1,10 +1,8 @@
 -- Word after word of the row; then the count.
-use Prim.Native.Nat.{◌+◌, ◌*◌, ◌≤◌, ◌<◌, ◌-◌}
-use mathlib.Core.Path.{◌≡◌, refl, sym, ◌∙◌, subst}
-use native.Mathlib.Omega.{arith}
-use borrow.Author.Rules.{rules}
-use lib.ListN.{length, get_or, set, length-set}
-use Rattle.bytecode.specs.Tables.{tables, stride, base, cap, size, row_at, product, row_fits, stride_small, cap_small, Partly, partly_start, partly_more, partly_done, Appended}
+use Prim.Native.Nat.{◌+◌, ◌≤◌, ◌-◌}
+use mathlib.Core.Path.{◌≡◌}
+use lib.ListN.{length, get_or}
+use Rattle.bytecode.specs.Tables.{stride, row_at, Partly}
 use Rattle.bytecode.proofs.append.Given as goal
 
 abbrev pub invariant-loop-j : goal.invariant-loop-j

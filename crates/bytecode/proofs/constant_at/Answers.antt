@@ -6,7 +6,6 @@ use Rattle.bytecode.specs.Lists.{limited}
 use Rattle.bytecode.specs.Meaning.{known_const_at, const_at, table_header}
 use Rattle.bytecode.specs.Parts.{constant_of}
 use Rattle.bytecode.proofs.Laws.{const_in, const_out}
-use borrow.Author.Rules.{rules}
 use Rattle.definition.specs.Module.{known_const}
 use native.Mathlib.Omega.{arith}
 use Rattle.bytecode.proofs.constant_at.Goals as goal

@@ -1,7 +1,6 @@
 use mathlib.Core.Path.{◌∙◌, ap₂}
 use Rattle.bytecode.specs.Lists.{limited}
 use Rattle.bytecode.specs.Meaning.{count}
-use borrow.Author.Rules.{rules}
 use Rattle.bytecode.proofs.count.Goals as goal
 
 pub returns : goal.returns

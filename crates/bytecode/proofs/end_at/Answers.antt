@@ -2,7 +2,6 @@ use mathlib.Core.Path.{◌∙◌}
 use Rattle.bytecode.specs.Tables.{cap}
 use Rattle.bytecode.specs.Meaning.{count_low}
 use Rattle.bytecode.proofs.Laws.{end_next, end_last}
-use borrow.Author.Rules.{rules}
 use native.Mathlib.Omega.{arith}
 use Rattle.bytecode.proofs.end_at.Goals as goal
 

@@ -1,6 +1,5 @@
 use mathlib.Core.Path.{◌∙◌, sym}
 use Rattle.bytecode.proofs.Laws.{sum_is}
-use borrow.Author.Rules.{rules}
 use Rattle.bytecode.proofs.enum_size.Goals as goal
 
 pub returns : goal.returns

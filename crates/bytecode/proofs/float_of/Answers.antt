@@ -1,7 +1,6 @@
 use mathlib.Core.Path.{ap, ◌∙◌}
 use Rattle.bytecode.specs.Lists.{limited}
 use Rattle.bytecode.proofs.Laws.{float_is}
-use borrow.Author.Rules.{rules}
 use Rattle.bytecode.proofs.float_of.Goals as goal
 
 pub returns : goal.returns

@@ -1,13 +1,9 @@
-use mathlib.Core.Path.{◌≡◌, ◌∙◌, sym, ap, ap₂, refl}
-use mathlib.Core.Bool.{true, false}
-use Prim.Native.Nat.{ℕ, ◌-◌, ◌≤◌}
-use Rattle.definition.specs.Basics.{is_member, saturating_add}
+use mathlib.Core.Path.{◌∙◌, sym, ap, ap₂}
+use Rattle.definition.specs.Basics.{saturating_add}
 use Rattle.bytecode.specs.Tables.{cap, base, stride}
 use Rattle.bytecode.specs.Lists.{limited}
-use Rattle.bytecode.specs.Meaning.{count as count_of, count_low, table_header}
-use Rattle.bytecode.specs.Meaning.{enum_sizes_of}
-use Rattle.bytecode.proofs.Laws.{Left, left_all, left_none, left_found, left_more}
-use borrow.Author.Rules.{rules}
+use Rattle.bytecode.specs.Meaning.{count_low, table_header}
+use Rattle.bytecode.proofs.Laws.{left_all, left_none, left_found, left_more}
 use native.Mathlib.Omega.{arith}
 use Rattle.bytecode.proofs.has_enum_size.Goals as goal
 

@@ -1,14 +1,9 @@
-use mathlib.Core.Path.{◌≡◌, ◌∙◌, sym, ap, ap₂, refl}
-use mathlib.Core.Bool.{true, false}
-use Prim.Native.Nat.{ℕ, ◌-◌, ◌≤◌}
-use Rattle.definition.specs.Basics.{is_member, saturating_add}
-use Rattle.bytecode.specs.Tables.{cap, base, stride}
-use Rattle.bytecode.specs.Lists.{limited}
-use Rattle.bytecode.specs.Meaning.{count as count_of, count_low, table_header}
+use mathlib.Core.Path.{◌≡◌}
+use Prim.Native.Nat.{◌-◌}
+use Rattle.definition.specs.Basics.{is_member}
+use Rattle.bytecode.specs.Meaning.{count as count_of, table_header}
 use Rattle.bytecode.specs.Meaning.{enum_sizes_of}
-use Rattle.bytecode.proofs.Laws.{Left, left_all, left_none, left_found, left_more}
-use borrow.Author.Rules.{rules}
-use native.Mathlib.Omega.{arith}
+use Rattle.bytecode.proofs.Laws.{Left}
 use Rattle.bytecode.proofs.has_enum_size.Given as goal
 
 abbrev pub invariant-loop-i : goal.invariant-loop-i

@@ -1,10 +1,9 @@
-use mathlib.Core.Path.{refl, sym, ◌∙◌, ap}
+use mathlib.Core.Path.{sym, ◌∙◌, ap}
 use Prim.Native.Nat.{ℕ}
 use lib.IntN.{pos, ◌-ℤ◌}
 use Rattle.bytecode.specs.Parts.{index_pushed}
 use Rattle.definition.specs.Basics.{choose}
 use Rattle.bytecode.proofs.Effects.{bounded}
-use borrow.Author.Rules.{rules}
 use Rattle.bytecode.proofs.index_effect.Goals as goal
 
 pub returns-then-k-eq-BYTE : goal.returns-then-k-eq-BYTE

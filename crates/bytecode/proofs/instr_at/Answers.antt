@@ -1,9 +1,6 @@
 use mathlib.Core.Path.{◌∙◌, ap, ap₂, refl}
-use Prim.Native.Nat.{ℕ, ◌+◌, ◌*◌}
-use lib.ListN.{get_or}
 use Rattle.bytecode.specs.Lists.{limited, limited_le}
 use Rattle.bytecode.proofs.Laws.{instr_is}
-use borrow.Author.Rules.{rules}
 use native.Mathlib.Omega.{arith}
 use Rattle.bytecode.proofs.instr_at.Goals as goal
 

@@ -1,5 +1,4 @@
 use Rattle.bytecode.proofs.Laws.{const_lacking, const_had}
-use borrow.Author.Rules.{rules}
 use Rattle.bytecode.proofs.known_const.Goals as goal
 
 pub returns-then-is_lacking : goal.returns-then-is_lacking

@@ -1,8 +1,7 @@
-use mathlib.Core.Path.{refl, sym, ◌∙◌, ap}
+use mathlib.Core.Path.{sym, ◌∙◌, ap}
 use Prim.Native.Nat.{ℕ, ◌%◌}
 use lib.IntN.{pos, ◌-ℤ◌}
 use Rattle.bytecode.proofs.Effects.{flagged, unflagged}
-use borrow.Author.Rules.{rules}
 use Rattle.bytecode.proofs.native_effect.Goals as goal
 
 pub returns-then-n-lt128 : goal.returns-then-n-lt128

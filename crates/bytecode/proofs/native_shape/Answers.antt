@@ -3,7 +3,6 @@ use Rattle.bytecode.specs.Tables.{cap}
 use Rattle.bytecode.specs.Meaning.{count_low}
 use Rattle.bytecode.specs.Parts.{declared_shape}
 use Rattle.bytecode.proofs.Laws.{known_by, native_in, native_out}
-use borrow.Author.Rules.{rules}
 use native.Mathlib.Omega.{arith}
 use Rattle.bytecode.proofs.native_shape.Goals as goal
 

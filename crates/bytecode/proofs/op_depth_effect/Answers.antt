@@ -1,7 +1,5 @@
-use mathlib.Core.Path.{sym}
 use Rattle.bytecode.proofs.Effects.{above1, above3, above4, pushes_one, dup, stores, get_indexed, set_indexed, bounds_check, index_flat}
 use Rattle.bytecode.proofs.Effects.{index_other, binary, unary, peeks, call, native_call, new_composite, checked, checked_neg, pop_n, trap, branches, rest}
-use borrow.Author.Rules.{rules}
 use native.Mathlib.Omega.{arith}
 use Rattle.bytecode.proofs.op_depth_effect.Goals as goal
 

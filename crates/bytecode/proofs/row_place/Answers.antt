@@ -1,8 +1,6 @@
 -- Assumes nothing.
-use Prim.Native.Nat.{◌+◌, ◌*◌, ◌≤◌}
-use mathlib.Core.Path.{◌≡◌, refl}
+use mathlib.Core.Path.{refl}
 use native.Mathlib.Omega.{arith}
-use borrow.Author.Rules.{rules}
 use Rattle.bytecode.specs.Tables.{stride, product, row_in, region_in}
 use Rattle.bytecode.proofs.row_place.Goals as goal
 

@@ -5,7 +5,6 @@ use mathlib.Core.Option.{none}
 use Rattle.definition.specs.Shapes.{composite}
 use Rattle.bytecode.specs.Parts.{declared_shape}
 use Rattle.bytecode.proofs.Laws.{scalar_lacking, scalar_known, scalar_other, flat_known, flat_other, neither}
-use borrow.Author.Rules.{rules}
 use Rattle.bytecode.proofs.shape_of_word.Goals as goal
 
 pub returns-then-is_lacking : goal.returns-then-is_lacking

@@ -1,6 +1,4 @@
-use mathlib.Core.Path.{◌∙◌, ap, ◌≡◌}
-use Prim.Native.Nat.{ℕ}
-use Rattle.definition.specs.Module.{Shared}
+use mathlib.Core.Path.{◌∙◌, ap}
 use Rattle.bytecode.specs.Tables.{cap}
 use Rattle.bytecode.specs.Lists.{limited}
 use Rattle.bytecode.specs.Meaning.{shared_at}
@@ -23,7 +21,7 @@ cell-requires-3 c = search rules
 pub returns : goal.returns
 unfolding shared_at shared_of
 returns c = rw (
-      c.limited32-offset.ensures ∙ ap (limited 4294967295) c.cell.ensures,
-      c.limited8-kind.ensures ∙ ap (limited 255) c.cell-2.ensures,
-      c.limited16-len.ensures ∙ ap (limited 65535) c.cell-3.ensures,
-    )
+  c.limited32-offset.ensures ∙ ap (limited 4294967295) c.cell.ensures,
+  c.limited8-kind.ensures ∙ ap (limited 255) c.cell-2.ensures,
+  c.limited16-len.ensures ∙ ap (limited 65535) c.cell-3.ensures,
+)

@@ -1,7 +1,6 @@
 use mathlib.Core.Path.{◌∙◌}
 use Rattle.bytecode.specs.Parts.{declared_shape}
 use Rattle.bytecode.proofs.Laws.{param_is, param_none}
-use borrow.Author.Rules.{rules}
 use native.Mathlib.Omega.{arith}
 use Rattle.bytecode.proofs.sig_param.Goals as goal
 

@@ -1,10 +1,9 @@
-use mathlib.Core.Path.{◌∙◌, ap, sym, ◌≡◌}
-use Prim.Native.Nat.{ℕ, ◌-◌, ◌≤◌}
+use mathlib.Core.Path.{◌∙◌, ap, sym}
+use Prim.Native.Nat.{ℕ, ◌-◌}
 use Rattle.bytecode.specs.Tables.{cap}
 use Rattle.bytecode.specs.Lists.{limited, limited_le}
 use Rattle.bytecode.specs.Meaning.{count_low, params_at}
 use Rattle.bytecode.proofs.Laws.{params_in, params_out, params_few}
-use borrow.Author.Rules.{rules}
 use native.Mathlib.Omega.{arith}
 use Rattle.bytecode.proofs.sig_params.Goals as goal
 

@@ -1,6 +1,5 @@
 use mathlib.Core.Path.{◌∙◌}
 use Rattle.bytecode.proofs.Laws.{resume_is}
-use borrow.Author.Rules.{rules}
 use Rattle.bytecode.proofs.sig_resume.Goals as goal
 
 pub returns : goal.returns

@@ -1,6 +1,5 @@
 use mathlib.Core.Path.{◌∙◌}
 use Rattle.bytecode.proofs.Laws.{return_is}
-use borrow.Author.Rules.{rules}
 use Rattle.bytecode.proofs.sig_return.Goals as goal
 
 pub returns : goal.returns

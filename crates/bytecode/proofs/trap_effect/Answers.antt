@@ -1,9 +1,7 @@
-use mathlib.Core.Path.{refl, sym, ◌∙◌, ap, ◌≡◌}
+use mathlib.Core.Path.{sym, ◌∙◌, ap}
 use Prim.Native.Nat.{ℕ}
 use lib.IntN.{pos, ◌-ℤ◌}
 use Rattle.bytecode.proofs.Effects.{trap_index, trap_host, trap_other}
-use Rattle.bytecode.specs.Parts.{trap_need}
-use borrow.Author.Rules.{rules}
 use Rattle.bytecode.proofs.trap_effect.Goals as goal
 
 pub returns-then-k-index_trap : goal.returns-then-k-index_trap

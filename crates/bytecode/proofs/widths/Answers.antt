@@ -1,7 +1,6 @@
 -- `bytecode::widths` meets its contract. Assumes nothing.
 use mathlib.Core.Path.{refl}
 use Rattle.bytecode.proofs.Laws.{log_low, widths_of}
-use borrow.Author.Rules.{rules}
 use Rattle.bytecode.proofs.widths.Goals as goal
 
 pub address_bytes-address-requires : goal.address_bytes-address-requires

@@ -1,6 +1,5 @@
 -- `data_layout::count_mismatch` meets its contract. Assumes nothing.
 use Rattle.data_layout.proofs.Laws.{not_prefix, not_as_many, as_many}
-use borrow.Author.Rules.{rules}
 use Rattle.data_layout.proofs.count_mismatch.Goals as goal
 
 pub returns-then-prefix-total : goal.returns-then-prefix-total

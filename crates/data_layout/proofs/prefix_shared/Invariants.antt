@@ -1,10 +1,6 @@
 -- `data_layout::prefix_shared` meets its contract. The slots passed are all shared. Assumes nothing.
 use Prim.Native.Nat.{◌-◌}
-use Rattle.bytecode.specs.Tables.{cap}
-use Rattle.bytecode.specs.Meaning.{count_low}
-use Rattle.data_layout.proofs.Laws.{Prefix, prefix_start, prefix_more, prefix_stop, prefix_end}
-use borrow.Author.Rules.{rules}
-use native.Mathlib.Omega.{arith}
+use Rattle.data_layout.proofs.Laws.{Prefix}
 use Rattle.data_layout.proofs.prefix_shared.Given as goal
 
 abbrev pub invariant-loop-i : goal.invariant-loop-i

@@ -1,10 +1,6 @@
 -- `data_layout::private_entries` meets its contract. The entries passed are in order. Assumes nothing.
 use Prim.Native.Nat.{◌-◌}
-use Rattle.bytecode.specs.Tables.{cap}
-use Rattle.bytecode.specs.Meaning.{count_low}
-use Rattle.data_layout.proofs.Laws.{Privates, private_start, private_end, private_bad, private_good, pool_is}
-use borrow.Author.Rules.{rules}
-use native.Mathlib.Omega.{arith}
+use Rattle.data_layout.proofs.Laws.{Privates}
 use Rattle.data_layout.proofs.private_entries.Given as goal
 
 abbrev pub invariant-loop-i : goal.invariant-loop-i

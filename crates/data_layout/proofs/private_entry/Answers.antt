@@ -1,6 +1,5 @@
 -- `data_layout::private_entry` meets its contract. Assumes nothing.
 use Rattle.data_layout.proofs.Laws.{slot_past, offset_past, entry_in}
-use borrow.Author.Rules.{rules}
 use Rattle.data_layout.proofs.private_entry.Goals as goal
 
 pub returns-then-slot-slots : goal.returns-then-slot-slots

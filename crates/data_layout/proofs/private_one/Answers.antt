@@ -1,6 +1,5 @@
 -- `data_layout::private_one` meets its contract. Assumes nothing.
 use Rattle.data_layout.proofs.Laws.{first_bad, first_good}
-use borrow.Author.Rules.{rules}
 use Rattle.data_layout.proofs.private_one.Goals as goal
 
 pub returns-in_default : goal.returns-in_default

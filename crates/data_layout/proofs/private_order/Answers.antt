@@ -1,6 +1,5 @@
 -- `data_layout::private_order` meets its contract. Assumes nothing.
 use Rattle.data_layout.proofs.Laws.{first_entry, slot_order, offset_order, in_order}
-use borrow.Author.Rules.{rules}
 use Rattle.data_layout.proofs.private_order.Goals as goal
 
 pub returns-then-slot-d : goal.returns-then-slot-d

@@ -1,6 +1,5 @@
 -- `data_layout::shared_slot` meets its contract. Assumes nothing.
 use Rattle.data_layout.proofs.Laws.{slot_out, slot_in, slot_unknown}
-use borrow.Author.Rules.{rules}
 use Rattle.data_layout.proofs.shared_slot.Goals as goal
 
 pub returns-then-offset-size : goal.returns-then-offset-size

@@ -1,9 +1,7 @@
 -- `data_layout::shared_slots` meets its contract. The entries passed are inside. Assumes nothing.
-use Prim.Native.Nat.{◌-◌}
 use Rattle.bytecode.specs.Tables.{cap}
 use Rattle.bytecode.specs.Meaning.{count_low, table_header}
-use Rattle.data_layout.proofs.Laws.{Shareds, shared_start, shared_end, shared_bad, shared_good, buffer_is}
-use borrow.Author.Rules.{rules}
+use Rattle.data_layout.proofs.Laws.{shared_start, shared_end, shared_bad, shared_good, buffer_is}
 use native.Mathlib.Omega.{arith}
 use Rattle.data_layout.proofs.shared_slots.Goals as goal
 

@@ -1,7 +1,6 @@
 -- `data_layout::size_of` meets its contract. Assumes nothing.
 use mathlib.Core.Path.{sym, ◌∙◌}
 use Rattle.data_layout.proofs.Laws.{size_composite, size_lacking, size_scalar, size_unknown}
-use borrow.Author.Rules.{rules}
 use native.Mathlib.Omega.{arith}
 use Rattle.data_layout.proofs.size_of.Goals as goal
 

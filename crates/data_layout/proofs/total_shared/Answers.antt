@@ -1,9 +1,7 @@
 -- `data_layout::total_shared` meets its contract. The total is that of the slots passed. Assumes nothing.
-use Prim.Native.Nat.{◌≤◌, ◌-◌}
 use Rattle.bytecode.specs.Tables.{cap}
 use Rattle.bytecode.specs.Meaning.{count_low}
-use Rattle.data_layout.proofs.Laws.{Count, count_start, count_more, count_past, count_end}
-use borrow.Author.Rules.{rules}
+use Rattle.data_layout.proofs.Laws.{count_start, count_more, count_past, count_end}
 use native.Mathlib.Omega.{arith}
 use Rattle.data_layout.proofs.total_shared.Goals as goal
 

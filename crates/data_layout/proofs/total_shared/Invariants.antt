@@ -1,10 +1,6 @@
 -- `data_layout::total_shared` meets its contract. The total is that of the slots passed. Assumes nothing.
 use Prim.Native.Nat.{◌≤◌, ◌-◌}
-use Rattle.bytecode.specs.Tables.{cap}
-use Rattle.bytecode.specs.Meaning.{count_low}
-use Rattle.data_layout.proofs.Laws.{Count, count_start, count_more, count_past, count_end}
-use borrow.Author.Rules.{rules}
-use native.Mathlib.Omega.{arith}
+use Rattle.data_layout.proofs.Laws.{Count}
 use Rattle.data_layout.proofs.total_shared.Given as goal
 
 abbrev pub invariant-loop-i : goal.invariant-loop-i

@@ -1,6 +1,5 @@
 -- `data_layout::validate_data_layout` meets its contract. Assumes nothing.
 use Rattle.data_layout.proofs.Laws.{counts_bad, shareds_bad, privates_are}
-use borrow.Author.Rules.{rules}
 use Rattle.data_layout.proofs.validate_data_layout.Goals as goal
 
 pub returns-in_default : goal.returns-in_default

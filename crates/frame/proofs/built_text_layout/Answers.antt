@@ -1,15 +1,12 @@
-use mathlib.Core.Path.{◌≡◌, sym, ap, subst, ◌∙◌}
-use lib.ListN.{length}
-use Prim.Native.Nat.{ℕ, ◌-◌, ◌≤◌}
+use mathlib.Core.Path.{sym, ap, subst, ◌∙◌}
+use Prim.Native.Nat.{ℕ, ◌-◌}
 use mathlib.Core.Option.{Option}
 use mathlib.Core.Bool.{true, false}
 use mathlib.Core.List.{List}
-use Rattle.definition.specs.Instructions.{Chunk}
 use Rattle.definition.specs.Effects.{built_places}
 use Rattle.frame.specs.Model.{value_at}
-use Rattle.value_layout.specs.Sizes.{Wide}
 use Rattle.shapes.specs.Text.{Means}
-use Rattle.shapes.proofs.Text.{Gathering, hold_none, gather_start, gather_more, gather_open, gather_sizeless, gather_end, took_as, reverse-take, got_bytes, got_none}
+use Rattle.shapes.proofs.Text.{hold_none, gather_start, gather_more, gather_open, gather_sizeless, gather_end, took_as, reverse-take, got_bytes, got_none}
 use borrow.Author.Rules.{rules}
 use Rattle.frame.proofs.built_text_layout.Goals as goal
 

@@ -1,4 +1,4 @@
-use mathlib.Core.Path.{◌≡◌, refl, sym, ap, subst, ◌∙◌}
+use mathlib.Core.Path.{refl, sym, ap, subst, ◌∙◌}
 use mathlib.Core.List.{List}
 use Prim.Native.Nat.{ℕ, ◌*◌}
 use lib.ListN.{set, get_or}
@@ -6,7 +6,7 @@ use lib.Seq.{paste}
 use Rattle.definition.specs.Shapes.{Shape as AnyShape}
 use Rattle.shapes.specs.Model.{count_of}
 use Rattle.frame.specs.declared.Slot.{Slot}
-use Rattle.frame.specs.Model.{at, slot_of, value_in, value_at}
+use Rattle.frame.specs.Model.{at, slot_of, value_at}
 use Rattle.frame.specs.Slots.{Written}
 use Rattle.frame.proofs.Stores.{read_law, stored}
 use borrow.Author.Rules.{rules}

@@ -1,6 +1,5 @@
 use mathlib.Core.Path.{◌≡◌, subst}
-use Prim.Native.Nat.{ℕ, ◌-◌, ◌≤◌}
-use lib.ListN.{length}
+use Prim.Native.Nat.{ℕ}
 use Rattle.frame.specs.Model.{at}
 use Rattle.frame.specs.Slots.{Copied}
 use Rattle.frame.proofs.Stores.{copy_start, copy_more}

@@ -1,11 +1,8 @@
-use mathlib.Core.Path.{◌≡◌, subst}
-use Prim.Native.Nat.{ℕ, ◌-◌, ◌≤◌}
+use mathlib.Core.Path.{◌≡◌}
+use Prim.Native.Nat.{◌-◌, ◌≤◌}
 use lib.ListN.{length}
 use Rattle.frame.specs.Model.{at}
 use Rattle.frame.specs.Slots.{Copied}
-use Rattle.frame.proofs.Stores.{copy_start, copy_more}
-use borrow.Author.Rules.{rules}
-use native.Mathlib.Omega.{arith}
 use Rattle.frame.proofs.copy_slots.Given as goal
 
 abbrev pub invariant-loop-i : goal.invariant-loop-i

@@ -1,10 +1,8 @@
 use mathlib.Core.Path.{sym, ap, ap₂, ◌∙◌}
-use Rattle.definition.specs.Shapes.{Shape as AnyShape}
 use Rattle.shapes.specs.Cover.{covers}
 use Rattle.frame.specs.Model.{value_at}
 use Rattle.shapes.proofs.Joins.{covers_self}
 use Rattle.frame.proofs.Stores.{plain_same}
-use borrow.Author.Rules.{rules}
 use Rattle.frame.proofs.covers_at.Goals as goal
 
 pub returns-then-is_plain : goal.returns-then-is_plain

@@ -1,13 +1,8 @@
-use mathlib.Core.Path.{◌≡◌, sym, ap, ◌∙◌}
-use mathlib.Core.Bool.{true, false}
-use Prim.Native.Nat.{ℕ, ◌+◌, ◌-◌, ◌≤◌}
+use mathlib.Core.Bool.{true}
+use Prim.Native.Nat.{◌-◌, ◌≤◌}
 use Rattle.definition.specs.Shapes.{join}
-use Rattle.shapes.specs.Cover.{covers}
 use Rattle.frame.specs.Model.{value_at}
 use Rattle.frame.specs.Slots.{Same}
-use Rattle.frame.proofs.Joins.{stack_covers, slots_more}
-use borrow.Author.Rules.{rules}
-use native.Mathlib.Omega.{arith}
 use Rattle.frame.proofs.covers_stack.Given as goal
 
 abbrev pub invariant-loop-i : goal.invariant-loop-i

@@ -1,7 +1,5 @@
-use mathlib.Core.Path.{◌≡◌}
-use Prim.Native.Nat.{◌≤◌, ◌-◌}
-use lib.ListN.{length, drop, replicate}
-use lib.Seq.{paste, paste-zero}
+use lib.ListN.{drop, replicate}
+use lib.Seq.{paste-zero}
 use Rattle.shapes.proofs.Lists.{cut-more, copy_done}
 use borrow.Author.Rules.{rules}
 use native.Mathlib.Omega.{arith}

@@ -1,10 +1,7 @@
 use mathlib.Core.Path.{◌≡◌}
 use Prim.Native.Nat.{◌≤◌, ◌-◌}
 use lib.ListN.{length, drop, replicate}
-use lib.Seq.{paste, paste-zero}
-use Rattle.shapes.proofs.Lists.{cut-more, copy_done}
-use borrow.Author.Rules.{rules}
-use native.Mathlib.Omega.{arith}
+use lib.Seq.{paste}
 use Rattle.frame.proofs.cut.Given as goal
 
 abbrev pub invariant-loop-j : goal.invariant-loop-j

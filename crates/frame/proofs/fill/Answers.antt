@@ -1,6 +1,5 @@
 use mathlib.Core.Path.{◌≡◌, subst}
-use Prim.Native.Nat.{ℕ, ◌-◌, ◌≤◌}
-use lib.ListN.{length}
+use Prim.Native.Nat.{ℕ}
 use Rattle.shapes.specs.Model.{value_of}
 use Rattle.frame.specs.Model.{at}
 use Rattle.frame.specs.Slots.{Filled}

@@ -1,12 +1,9 @@
-use mathlib.Core.Path.{◌≡◌, subst}
+use mathlib.Core.Path.{◌≡◌}
 use Prim.Native.Nat.{ℕ, ◌-◌, ◌≤◌}
 use lib.ListN.{length}
 use Rattle.shapes.specs.Model.{value_of}
 use Rattle.frame.specs.Model.{at}
 use Rattle.frame.specs.Slots.{Filled}
-use Rattle.frame.proofs.Stores.{fill_start, fill_more}
-use borrow.Author.Rules.{rules}
-use native.Mathlib.Omega.{arith}
 use Rattle.frame.proofs.fill.Given as goal
 
 abbrev pub invariant-loop-i : goal.invariant-loop-i

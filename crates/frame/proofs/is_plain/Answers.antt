@@ -1,9 +1,7 @@
-use mathlib.Core.Path.{◌≡◌, sym, ap, ◌∙◌}
-use Prim.Native.Nat.{ℕ}
+use mathlib.Core.Path.{sym, ap, ◌∙◌}
 use borrow.Author.Tests.{eqb-true}
 use Rattle.shapes.specs.Model.{count_of}
 use Rattle.frame.specs.declared.Slot.{Slot}
-use borrow.Author.Rules.{rules}
 use Rattle.frame.proofs.is_plain.Goals as goal
 
 pub returns : goal.returns

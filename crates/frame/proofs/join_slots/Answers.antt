@@ -1,6 +1,5 @@
-use mathlib.Core.Path.{◌≡◌, subst, ap, sym}
-use Prim.Native.Nat.{ℕ, ◌-◌, ◌≤◌}
-use lib.ListN.{length}
+use mathlib.Core.Path.{◌≡◌, subst}
+use Prim.Native.Nat.{ℕ}
 use Rattle.definition.specs.Shapes.{Shape as AnyShape, join}
 use Rattle.frame.specs.Model.{at, value_at}
 use Rattle.frame.specs.Slots.{Joined, Written}

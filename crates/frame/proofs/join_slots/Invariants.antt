@@ -1,12 +1,8 @@
-use mathlib.Core.Path.{◌≡◌, subst, ap, sym}
+use mathlib.Core.Path.{◌≡◌}
 use Prim.Native.Nat.{ℕ, ◌-◌, ◌≤◌}
 use lib.ListN.{length}
-use Rattle.definition.specs.Shapes.{Shape as AnyShape, join}
-use Rattle.frame.specs.Model.{at, value_at}
-use Rattle.frame.specs.Slots.{Joined, Written}
-use Rattle.frame.proofs.Joins.{join-start, join_more, join_next}
-use borrow.Author.Rules.{rules}
-use native.Mathlib.Omega.{arith}
+use Rattle.frame.specs.Model.{at}
+use Rattle.frame.specs.Slots.{Joined}
 use Rattle.frame.proofs.join_slots.Given as goal
 
 abbrev pub invariant-loop-i : goal.invariant-loop-i

@@ -2,7 +2,6 @@ use mathlib.Core.Path.{◌∙◌}
 use Rattle.shapes.proofs.Lists.{down-at, down-past}
 use Rattle.definition.specs.Shapes.{unknown}
 use Rattle.frame.specs.Model.{value_at}
-use borrow.Author.Rules.{rules}
 use Rattle.frame.proofs.operand.Goals as goal
 
 pub returns-then-i-height : goal.returns-then-i-height

@@ -1,15 +1,11 @@
-use mathlib.Core.Path.{◌≡◌, refl, sym, ap, subst, ◌∙◌}
-use Prim.Native.Nat.{ℕ, ◌+◌, ◌*◌, ◌-◌, ◌≤◌}
-use mathlib.Core.Option.{some}
-use mathlib.Core.List.{List}
+use mathlib.Core.Path.{◌≡◌, sym, ap, ◌∙◌}
+use Prim.Native.Nat.{ℕ, ◌+◌, ◌*◌, ◌-◌}
 use lib.ListN.{get_or, take, drop}
-use Rattle.definition.specs.Instructions.{Chunk}
 use Rattle.definition.specs.Effects.{packed}
 use Rattle.shapes.specs.declared.Shape.{Shape}
 use Rattle.shapes.specs.Model.{shape_of, places_of}
 use Rattle.shapes.specs.Tabulated.{down}
 use Rattle.frame.specs.Model.{slot_of, value_in, value_at}
-use Rattle.value_layout.specs.Sizes.{Wide}
 use Rattle.shapes.specs.Text.{packed_of}
 use Rattle.shapes.proofs.Text.{packed_start, packed_more, packed_stop, take-down, got_bytes, got_none}
 use borrow.Author.Rules.{rules}

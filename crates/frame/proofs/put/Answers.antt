@@ -1,7 +1,4 @@
-use mathlib.Core.Path.{◌≡◌}
-use Prim.Native.Nat.{◌≤◌, ◌-◌}
-use lib.ListN.{length}
-use lib.Seq.{paste, paste-zero}
+use lib.Seq.{paste-zero}
 use Rattle.shapes.proofs.Lists.{copy_more, copy_done}
 use borrow.Author.Rules.{rules}
 use native.Mathlib.Omega.{arith}

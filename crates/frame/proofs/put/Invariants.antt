@@ -1,10 +1,7 @@
 use mathlib.Core.Path.{◌≡◌}
 use Prim.Native.Nat.{◌≤◌, ◌-◌}
 use lib.ListN.{length}
-use lib.Seq.{paste, paste-zero}
-use Rattle.shapes.proofs.Lists.{copy_more, copy_done}
-use borrow.Author.Rules.{rules}
-use native.Mathlib.Omega.{arith}
+use lib.Seq.{paste}
 use Rattle.frame.proofs.put.Given as goal
 
 abbrev pub invariant-loop-j : goal.invariant-loop-j

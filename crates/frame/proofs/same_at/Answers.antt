@@ -1,9 +1,8 @@
 use mathlib.Core.Path.{sym, ap, ap₂, ◌∙◌}
-use Rattle.definition.specs.Shapes.{Shape as AnyShape, same_shape}
+use Rattle.definition.specs.Shapes.{same_shape}
 use Rattle.frame.specs.Model.{value_at}
 use Rattle.shapes.proofs.Joins.{shape_refl}
 use Rattle.frame.proofs.Stores.{plain_same}
-use borrow.Author.Rules.{rules}
 use Rattle.frame.proofs.same_at.Goals as goal
 
 pub returns-then-is_plain : goal.returns-then-is_plain

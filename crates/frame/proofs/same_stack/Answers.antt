@@ -1,10 +1,9 @@
-use mathlib.Core.Path.{◌≡◌, sym, ap, subst, ◌∙◌}
+use mathlib.Core.Path.{◌≡◌, sym, subst, ◌∙◌}
 use mathlib.Core.Bool.{true, false}
-use Prim.Native.Nat.{ℕ, ◌-◌, ◌≤◌}
+use Prim.Native.Nat.{ℕ}
 use Rattle.definition.specs.Shapes.{same_shapes}
 use Rattle.shapes.specs.Tabulated.{down}
 use Rattle.frame.specs.Model.{value_at}
-use Rattle.frame.specs.Slots.{Same}
 use Rattle.frame.proofs.Joins.{stacks_apart, stack_same, slots_more}
 use borrow.Author.Rules.{rules}
 use native.Mathlib.Omega.{arith}

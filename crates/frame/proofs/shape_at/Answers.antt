@@ -1,6 +1,5 @@
 use mathlib.Core.Path.{ap}
 use Rattle.frame.specs.declared.Slot.{Slot}
-use borrow.Author.Rules.{rules}
 use Rattle.frame.proofs.shape_at.Goals as goal
 
 pub returns : goal.returns

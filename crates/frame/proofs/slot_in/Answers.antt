@@ -1,5 +1,4 @@
 use Rattle.frame.proofs.Stores.{in_unknown, in_scalar, in_composite}
-use borrow.Author.Rules.{rules}
 use Rattle.frame.proofs.slot_in.Goals as goal
 
 pub returns-then-tag-eq0 : goal.returns-then-tag-eq0

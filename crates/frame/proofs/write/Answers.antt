@@ -1,7 +1,7 @@
-use mathlib.Core.Path.{◌≡◌, sym, subst}
+use mathlib.Core.Path.{sym, subst}
 use mathlib.Core.List.{List}
 use Prim.Native.Nat.{ℕ}
-use lib.ListN.{length, set}
+use lib.ListN.{set}
 use Rattle.frame.specs.Model.{at}
 use Rattle.shapes.specs.Model.{value_of}
 use Rattle.frame.specs.Slots.{Written}

@@ -1,8 +1,7 @@
-use borrow.Author.Rules.{rules}
-use mathlib.Core.Path.{◌≡◌, refl, sym, ap, ◌∙◌}
+use mathlib.Core.Path.{sym, ap, ◌∙◌}
 use Prim.Native.Nat.{ℕ}
 use borrow.Author.Tests.{ne_eqb}
-use Rattle.definition.specs.Basics.{is_member, choose}
+use Rattle.definition.specs.Basics.{choose}
 use Rattle.listing.specs.Scan.{admitted}
 use Rattle.listing.proofs.admits.Goals as goal
 

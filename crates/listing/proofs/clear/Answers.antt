@@ -1,6 +1,5 @@
 use mathlib.Core.Path.{◌∙◌, sym}
-use Prim.Native.Nat.{◌-◌}
-use Rattle.listing.specs.Reads.{Cleared, clear_none, clear_more, clear_long, clear_done}
+use Rattle.listing.specs.Reads.{clear_none, clear_more, clear_long, clear_done}
 use borrow.Author.Rules.{rules}
 use native.Mathlib.Omega.{arith}
 use Rattle.listing.proofs.clear.Goals as goal

@@ -1,10 +1,6 @@
 use mathlib.Core.Bool.{not}
-use mathlib.Core.Path.{◌∙◌, sym, ap}
-use mathlib.Core.Bool.{◌&&◌, Bool}
-use mathlib.Core.List.{◌∷◌, []}
+use mathlib.Core.Path.{ap}
 use borrow.Author.Tests.{not-true, not-false}
-use lib.ListN.{drop}
-use Rattle.definition.specs.Shapes.{same_places}
 use Rattle.listing.specs.OpRead.{close_short, close_other, close_here}
 use borrow.Author.Rules.{rules}
 use Rattle.listing.proofs.closes.Goals as goal

@@ -1,8 +1,7 @@
-use mathlib.Core.Path.{◌≡◌, refl, ◌∙◌, sym, ap, subst}
-use Prim.Native.Nat.{ℕ, ◌≤◌, ◌<◌, ◌*◌, ◌+◌, ◌-◌}
+use mathlib.Core.Path.{◌≡◌, refl, ◌∙◌, sym, ap}
+use Prim.Native.Nat.{ℕ, ◌*◌, ◌+◌, ◌-◌}
 use native.Mathlib.Omega.{arith}
-use borrow.Author.Rules.{rules}
-use lib.ListN.{length, drop, get_or}
+use lib.ListN.{drop, get_or}
 use Rattle.definition.specs.Format.{digits_from}
 use Rattle.listing.specs.Num.{at_end, at_low, at_high, at_digit, done, too_much, at_most}
 use Rattle.listing.proofs.digits.Goals as goal
@@ -21,12 +20,12 @@ returns-then-n-gt4294967295 c = sym (ap (at_most 4294967295) c.loop-i.invariant.
 
 pub loop-i-preserved : goal.loop-i-preserved
 loop-i-preserved c = let d : get_or c.args.s.now c.loop-i.i 0 ≡ c.wide-b.result = sym c.wide-b.ensures in (
-      omega arith,
-      omega arith,
-      c.loop-i.invariant.2
-          ∙ at_digit c.args.s.now c.loop-i.n c.loop-i.i (omega arith) (omega arith) (omega arith)
-          ∙ ap (λ (m : ℕ). digits_from (c.loop-i.n * 10 + (m - 48)) (drop (c.loop-i.i + 1) c.args.s.now)) d,
-    )
+  omega arith,
+  omega arith,
+  c.loop-i.invariant.2
+      ∙ at_digit c.args.s.now c.loop-i.n c.loop-i.i (omega arith) (omega arith) (omega arith)
+      ∙ ap (λ (m : ℕ). digits_from (c.loop-i.n * 10 + (m - 48)) (drop (c.loop-i.i + 1) c.args.s.now)) d,
+)
 
 pub returns : goal.returns
 returns c = done 4294967295 c.args.at c.loop-i.n c.loop-i.i c.args.s.now _ c.loop-i.invariant.2 (at_end c.args.s.now c.loop-i.n c.loop-i.i (omega arith)) (c.fit-2.ensures c.args.s.now)

@@ -1,10 +1,7 @@
-use mathlib.Core.Path.{◌≡◌, refl, ◌∙◌, sym, ap, subst}
-use Prim.Native.Nat.{ℕ, ◌≤◌, ◌<◌, ◌*◌, ◌+◌, ◌-◌}
-use native.Mathlib.Omega.{arith}
-use borrow.Author.Rules.{rules}
-use lib.ListN.{length, drop, get_or}
+use mathlib.Core.Path.{◌≡◌}
+use Prim.Native.Nat.{◌≤◌, ◌*◌, ◌+◌, ◌-◌}
+use lib.ListN.{length, drop}
 use Rattle.definition.specs.Format.{digits_from}
-use Rattle.listing.specs.Num.{at_end, at_low, at_high, at_digit, done, too_much, at_most}
 use Rattle.listing.proofs.digits.Given as goal
 
 abbrev pub invariant-loop-i : goal.invariant-loop-i

@@ -2,7 +2,6 @@ use mathlib.Core.Path.{ap}
 use mathlib.Core.List.{List}
 use Prim.Native.Nat.{ℕ}
 use lib.ListN.{get_or}
-use borrow.Author.Rules.{rules}
 use Rattle.listing.proofs.format_at.Goals as goal
 
 pub returns : goal.returns

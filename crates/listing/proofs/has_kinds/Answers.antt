@@ -1,13 +1,7 @@
-use mathlib.Core.Path.{◌≡◌, ◌∙◌, sym, refl}
-use mathlib.Core.List.{List}
-use Prim.Native.Nat.{ℕ, ◌-◌, ◌≤◌}
-use lib.ListN.{drop}
-use Rattle.theorems.specs.KindOf.{has_kinds}
+use mathlib.Core.Path.{◌∙◌, sym, refl}
 use Rattle.bytecode.specs.Meaning.{maxima_of}
-use Rattle.listing.specs.Rows.{Stored}
 use Rattle.listing.specs.OpRead.{maxima_short}
 use Rattle.listing.specs.Kinds.{named_is, named_all, named_next, named_not, named_none}
-use borrow.Author.Rules.{rules}
 use native.Mathlib.Omega.{arith}
 use Rattle.listing.proofs.has_kinds.Goals as goal
 

@@ -1,5 +1,4 @@
 use Rattle.bytecode.specs.Tables.{past-last}
-use borrow.Author.Rules.{rules}
 use Rattle.listing.proofs.high_of.Goals as goal
 
 pub returns-in_default : goal.returns-in_default

@@ -1,5 +1,4 @@
-use mathlib.Core.Path.{sym, ap, ◌≡◌}
-use mathlib.Core.Bool.{Bool}
+use mathlib.Core.Path.{sym, ap}
 use lib.ListN.{drop_of_length-le}
 use lib.Seq.{drop-cons}
 use Rattle.definition.specs.Format.{begins_with}

@@ -1,7 +1,6 @@
 use mathlib.Core.Path.{◌∙◌}
 use Rattle.definition.specs.Basics.{is_member}
 use Rattle.listing.specs.Num.{zero_or}
-use borrow.Author.Rules.{rules}
 use Rattle.listing.proofs.is_float_width.Goals as goal
 
 pub returns-then-n-eq0 : goal.returns-then-n-eq0

@@ -1,6 +1,4 @@
-use Prim.Native.Nat.{◌-◌, ◌≤◌}
-use lib.ListN.{length}
-use Rattle.listing.specs.Reads.{LineTo, line_start, line_on, line_lf, line_short}
+use Rattle.listing.specs.Reads.{line_start, line_on, line_lf, line_short}
 use borrow.Author.Rules.{rules}
 use native.Mathlib.Omega.{arith}
 use Rattle.listing.proofs.line_end.Goals as goal

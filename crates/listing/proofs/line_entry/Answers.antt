@@ -1,7 +1,5 @@
-use mathlib.Core.Path.{◌≡◌, ◌∙◌, sym}
-use Prim.Native.Nat.{ℕ, ◌-◌, ◌≤◌, ◌*◌}
-use Rattle.definition.specs.Read.{line_forms}
-use Rattle.listing.specs.Find.{whole_line, left_forms, forms_start, forms_end, form_passed, form_taken, entered_one, entered_none}
+use mathlib.Core.Path.{◌∙◌, sym}
+use Rattle.listing.specs.Find.{forms_start, forms_end, form_passed, form_taken, entered_one, entered_none}
 use borrow.Author.Rules.{rules}
 use native.Mathlib.Omega.{arith}
 use Rattle.listing.proofs.line_entry.Goals as goal

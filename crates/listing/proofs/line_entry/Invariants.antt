@@ -1,9 +1,7 @@
-use mathlib.Core.Path.{◌≡◌, ◌∙◌, sym}
-use Prim.Native.Nat.{ℕ, ◌-◌, ◌≤◌, ◌*◌}
+use mathlib.Core.Path.{◌≡◌}
+use Prim.Native.Nat.{◌-◌}
 use Rattle.definition.specs.Read.{line_forms}
-use Rattle.listing.specs.Find.{whole_line, left_forms, forms_start, forms_end, form_passed, form_taken, entered_one, entered_none}
-use borrow.Author.Rules.{rules}
-use native.Mathlib.Omega.{arith}
+use Rattle.listing.specs.Find.{whole_line, left_forms}
 use Rattle.listing.proofs.line_entry.Given as goal
 
 abbrev pub invariant-loop-f : goal.invariant-loop-f

@@ -4,7 +4,6 @@ use lib.ListN.{get_or}
 use Rattle.definition.specs.Read.{within}
 use Rattle.listing.specs.Forms.{lows, highs}
 use Rattle.listing.specs.Step.{stands_first, stands_op, stands_other, stands_not}
-use borrow.Author.Rules.{rules}
 use native.Mathlib.Omega.{arith}
 use Rattle.listing.proofs.may_stand.Goals as goal
 

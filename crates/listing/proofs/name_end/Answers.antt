@@ -1,7 +1,5 @@
-use mathlib.Core.Path.{◌≡◌, ◌∙◌, sym}
-use Prim.Native.Nat.{ℕ, ◌-◌, ◌≤◌}
-use lib.ListN.{length}
-use Rattle.listing.specs.OpRead.{NameFrom, name_start, name_done, name_on, ends_short}
+use mathlib.Core.Path.{◌∙◌, sym}
+use Rattle.listing.specs.OpRead.{name_start, name_done, name_on, ends_short}
 use borrow.Author.Rules.{rules}
 use native.Mathlib.Omega.{arith}
 use Rattle.listing.proofs.name_end.Goals as goal

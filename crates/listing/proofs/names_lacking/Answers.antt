@@ -1,8 +1,6 @@
 use mathlib.Core.Path.{◌∙◌}
 use borrow.Author.Tests.{ne_eqb, eq-eqb}
 use Rattle.listing.specs.Kinds.{no_kind}
-use borrow.Author.Rules.{rules}
-use native.Mathlib.Omega.{arith}
 use Rattle.listing.proofs.names_lacking.Goals as goal
 
 pub returns-then-most-ne-MOST_KIND : goal.returns-then-most-ne-MOST_KIND

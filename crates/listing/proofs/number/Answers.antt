@@ -1,7 +1,6 @@
 use mathlib.Core.Bool.{not}
-use mathlib.Core.Path.{◌≡◌, refl, sym, ap, ◌∙◌}
+use mathlib.Core.Path.{sym, ap, ◌∙◌}
 use native.Mathlib.Omega.{arith}
-use borrow.Author.Rules.{rules}
 use borrow.Author.Tests.{not-true, not-false}
 use Rattle.listing.specs.Num.{number_of, number_short, number_space, number_bad, number_big, number_got, number_not}
 use Rattle.listing.proofs.number.Goals as goal

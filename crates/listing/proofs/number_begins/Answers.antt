@@ -1,6 +1,4 @@
-use mathlib.Core.Path.{◌≡◌, refl, sym, ap, ◌∙◌}
 use native.Mathlib.Omega.{arith}
-use borrow.Author.Rules.{rules}
 use Rattle.listing.specs.Num.{begins_none, begins_zero, begins_other}
 use Rattle.listing.proofs.number_begins.Goals as goal
 

@@ -1,17 +1,14 @@
 use mathlib.Core.Bool.{not}
-use mathlib.Core.Path.{◌≡◌, ◌∙◌, sym, ap, refl, subst}
-use mathlib.Core.Bool.{Bool, true, false}
+use mathlib.Core.Path.{◌≡◌, ◌∙◌, sym, ap, subst}
+use mathlib.Core.Bool.{true, false}
 use mathlib.Core.List.{List}
-use mathlib.Core.Option.{none}
-use Prim.Native.Nat.{ℕ, ◌<◌, ◌≤◌, ◌+◌}
-use lib.ListN.{length, get_or}
+use Prim.Native.Nat.{ℕ, ◌<◌, ◌≤◌}
+use lib.ListN.{get_or}
 use borrow.Author.Tests.{not-true, not-false}
-use Rattle.definition.specs.Read.{Line, Reader}
-use Rattle.bytecode.specs.Tables.{cap, size, stride, Appended}
-use Rattle.listing.specs.Forms.{form_kind, may_stand, place_after, own_limit}
-use Rattle.listing.specs.Step.{StepIs, limit_of, stood, step_unread, step_misplaced, step_close, step_full, step_many, step_locals, step_stored}
+use Rattle.bytecode.specs.Tables.{cap, Appended}
+use Rattle.listing.specs.Forms.{form_kind, may_stand, place_after}
+use Rattle.listing.specs.Step.{limit_of, stood, step_unread, step_misplaced, step_close, step_full, step_many, step_locals, step_stored}
 use native.Mathlib.Omega.{arith}
-use borrow.Author.Rules.{rules}
 use Rattle.listing.proofs.one_line.Goals as goal
 
 zero_of : (r : ℕ) → r ≤ 3 → (r ≡ 1 → ⊥) → (r ≡ 2 → ⊥) → (r ≡ 3 → ⊥) → r ≡ 0

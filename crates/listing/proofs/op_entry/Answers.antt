@@ -1,11 +1,10 @@
 use mathlib.Core.Path.{◌≡◌, ◌∙◌, sym, ap, refl}
-use mathlib.Core.Option.{none, some}
-use Prim.Native.Nat.{ℕ, ◌-◌, ◌<◌, ◌+◌}
+use mathlib.Core.Option.{some}
+use Prim.Native.Nat.{◌-◌}
 use lib.ListN.{take, drop}
 use Rattle.bytecode.specs.Names.{row_number, lookup}
 use Rattle.listing.specs.Find.{entered_none}
 use Rattle.listing.specs.OpRead.{lookup_low, unnamed, not_closed, op_entered}
-use borrow.Author.Rules.{rules}
 use native.Mathlib.Omega.{arith}
 use Rattle.listing.proofs.op_entry.Goals as goal
 

@@ -1,13 +1,11 @@
-use mathlib.Core.Path.{◌≡◌, ◌∙◌, sym, ap, refl}
-use mathlib.Core.Option.{some}
-use mathlib.Core.Logic.{⊎_elim}
-use Prim.Native.Nat.{ℕ, ◌-◌, ◌≤◌, ◌+◌}
+use mathlib.Core.Path.{◌∙◌, sym, ap}
+use Prim.Native.Nat.{ℕ}
 use lib.ListN.{drop}
 use Rattle.definition.specs.Format.{number_at}
 use Rattle.listing.specs.Num.{number_of}
 use Rattle.listing.specs.Scan.{admitted, max_code}
 use Rattle.listing.specs.Rows.{nothing_stored}
-use Rattle.listing.specs.OpRead.{ReadTo, read_start, no_more, all_read, operand_bad, operand_read}
+use Rattle.listing.specs.OpRead.{read_start, no_more, all_read, operand_bad, operand_read}
 use borrow.Author.Rules.{rules}
 use native.Mathlib.Omega.{arith}
 use Rattle.listing.proofs.operands.Goals as goal
@@ -39,6 +37,6 @@ loop-j-preserved c = (
 
 pub returns : goal.returns
 returns c = elim c.loop-j-test.branch [
-    else-loop-j-test w ↦ all_read c.args.row c.args.s.now c.args.at (search rules) c.loop-j.i c.loop-j.j c.loop-j.vals c.loop-j.invariant.1 w.loop-j-test.false c.full_row.result c.full_row.ensures.0 c.full_row.ensures.1 c.full_row.ensures.2 c.full_row.ensures.3
-    | then-loop-j-test+then-m-eq0 w ↦ no_more c.args.row c.args.s.now c.args.at (search rules) c.loop-j.i c.loop-j.j c.loop-j.vals c.loop-j.invariant.1 (sym w.maximum-m.ensures ∙ w.if-m-eq0.true) c.full_row.result c.full_row.ensures.0 c.full_row.ensures.1 c.full_row.ensures.2 c.full_row.ensures.3
-    ]
+  | else-loop-j-test w ↦ all_read c.args.row c.args.s.now c.args.at (search rules) c.loop-j.i c.loop-j.j c.loop-j.vals c.loop-j.invariant.1 w.loop-j-test.false c.full_row.result c.full_row.ensures.0 c.full_row.ensures.1 c.full_row.ensures.2 c.full_row.ensures.3
+  | then-loop-j-test+then-m-eq0 w ↦ no_more c.args.row c.args.s.now c.args.at (search rules) c.loop-j.i c.loop-j.j c.loop-j.vals c.loop-j.invariant.1 (sym w.maximum-m.ensures ∙ w.if-m-eq0.true) c.full_row.result c.full_row.ensures.0 c.full_row.ensures.1 c.full_row.ensures.2 c.full_row.ensures.3
+]

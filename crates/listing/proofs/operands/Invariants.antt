@@ -1,15 +1,5 @@
-use mathlib.Core.Path.{◌≡◌, ◌∙◌, sym, ap, refl}
-use mathlib.Core.Option.{some}
-use mathlib.Core.Logic.{⊎_elim}
-use Prim.Native.Nat.{ℕ, ◌-◌, ◌≤◌, ◌+◌}
-use lib.ListN.{drop}
-use Rattle.definition.specs.Format.{number_at}
-use Rattle.listing.specs.Num.{number_of}
-use Rattle.listing.specs.Scan.{admitted, max_code}
-use Rattle.listing.specs.Rows.{nothing_stored}
-use Rattle.listing.specs.OpRead.{ReadTo, read_start, no_more, all_read, operand_bad, operand_read}
-use borrow.Author.Rules.{rules}
-use native.Mathlib.Omega.{arith}
+use Prim.Native.Nat.{◌-◌, ◌≤◌}
+use Rattle.listing.specs.OpRead.{ReadTo}
 use Rattle.listing.proofs.operands.Given as goal
 
 abbrev pub invariant-loop-j : goal.invariant-loop-j

@@ -1,8 +1,6 @@
-use mathlib.Core.Path.{◌≡◌, refl, sym, ap, ◌∙◌}
 use native.Mathlib.Omega.{arith}
-use borrow.Author.Rules.{rules}
 use lib.ListN.{drop}
-use Rattle.listing.specs.Rows.{over_other, over_here, over_end, value_first, value_second, value_number, after_same, after_next}
+use Rattle.listing.specs.Rows.{over_other, over_here, over_end}
 use Rattle.listing.proofs.over.Goals as goal
 
 pub returns-then-c-ne-SHAPES : goal.returns-then-c-ne-SHAPES

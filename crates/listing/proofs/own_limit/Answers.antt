@@ -1,5 +1,4 @@
 use Rattle.listing.specs.Step.{limit_many, limit_few, limit_locals, limit_fine, limit_none}
-use borrow.Author.Rules.{rules}
 use native.Mathlib.Omega.{arith}
 use Rattle.listing.proofs.own_limit.Goals as goal
 

@@ -1,7 +1,6 @@
 use mathlib.Core.Path.{◌∙◌}
 use Rattle.listing.specs.Step.{after_chunk, after_module, after_row}
 use native.Mathlib.Omega.{arith}
-use borrow.Author.Rules.{rules}
 use Rattle.listing.proofs.place_after.Goals as goal
 
 pub returns-then-place-ge-CONSTANTS : goal.returns-then-place-ge-CONSTANTS

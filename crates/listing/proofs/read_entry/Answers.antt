@@ -1,14 +1,12 @@
 use mathlib.Core.Path.{◌≡◌, ◌∙◌, sym, ap, subst}
-use mathlib.Core.Option.{Option, none, some}
-use Prim.Native.Nat.{ℕ}
+use mathlib.Core.Option.{Option, some}
 use lib.ListN.{drop}
 use mathlib.Core.List.{◌∷◌, []}
-use Rattle.definition.specs.Format.{Bytes, bytes, strip}
-use Rattle.definition.specs.Read.{Line, read_line}
+use Rattle.definition.specs.Format.{bytes, strip}
+use Rattle.definition.specs.Read.{Line}
 use Rattle.listing.specs.Num.{after}
 use Rattle.listing.specs.Find.{Entered}
 use Rattle.listing.specs.OpRead.{as_op, no_op, strip-rest}
-use borrow.Author.Rules.{rules}
 use Rattle.listing.proofs.read_entry.Goals as goal
 
 pub returns-in_default : goal.returns-in_default

@@ -1,7 +1,6 @@
-use mathlib.Core.Path.{◌≡◌, ◌∙◌, sym}
-use Prim.Native.Nat.{◌-◌, ◌≤◌}
-use lib.ListN.{length, take, drop, length-take, length-drop}
-use Rattle.listing.specs.Reads.{Going, going_start, no_lf, all_read, end_missing, line_wrong, line_full, line_locals, line_done}
+use mathlib.Core.Path.{◌∙◌, sym}
+use lib.ListN.{length-take, length-drop}
+use Rattle.listing.specs.Reads.{going_start, no_lf, all_read, end_missing, line_wrong, line_full, line_locals, line_done}
 use borrow.Author.Rules.{rules}
 use native.Mathlib.Omega.{arith}
 use Rattle.listing.proofs.read_lines.Goals as goal

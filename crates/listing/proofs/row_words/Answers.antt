@@ -1,8 +1,7 @@
-use mathlib.Core.Path.{◌≡◌, ◌∙◌, sym, ap}
+use mathlib.Core.Path.{◌∙◌, ap}
 use Prim.Native.Nat.{ℕ}
 use lib.ListN.{get_or, set}
 use Rattle.listing.specs.Step.{words_plain, words_chunk}
-use borrow.Author.Rules.{rules}
 use Rattle.listing.proofs.row_words.Goals as goal
 
 pub returns-then-form-eq-CHUNK : goal.returns-then-form-eq-CHUNK

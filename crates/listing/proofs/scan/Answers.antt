@@ -1,15 +1,13 @@
 use mathlib.Core.Bool.{not}
-use mathlib.Core.Path.{◌≡◌, refl, sym, ap, ◌∙◌}
+use mathlib.Core.Path.{sym, ap, ◌∙◌}
 use mathlib.Core.List.{◌∷◌, []}
-use mathlib.Core.Logic.{⊎_elim}
-use Prim.Native.Nat.{ℕ, ◌+◌, ◌*◌, ◌-◌, ◌≤◌, ◌<◌}
-use lib.ListN.{length, drop, get_or}
-use Rattle.listing.specs.Scan.{formats, joined}
+use Prim.Native.Nat.{ℕ, ◌+◌, ◌*◌}
+use lib.ListN.{drop}
+use Rattle.listing.specs.Scan.{joined}
 use Rattle.listing.specs.Num.{number_of}
-use Rattle.listing.specs.Rows.{Sofar, sofar_start, sofar_on, sofar_bad, sofar_done, sofar_kept, sofar_lost, nothing_stored, left, left_out, left_end, byte_in, byte_is, byte_not, left_over, value_none, value_more, shapes_over, value_at, code_after, less}
+use Rattle.listing.specs.Rows.{sofar_start, sofar_on, sofar_bad, sofar_done, sofar_kept, sofar_lost, nothing_stored, left, left_out, left_end, byte_in, byte_is, byte_not, left_over, value_none, value_more, shapes_over, value_at, code_after, less}
 use borrow.Author.Tests.{not-true, not-false}
 use Rattle.definition.specs.Format.{begins_with}
-use borrow.Author.Rules.{rules}
 use native.Mathlib.Omega.{arith}
 use Rattle.listing.proofs.scan.Goals as goal
 use Rattle.listing.proofs.scan.Goals.{else-loop-j-test, then-loop-j-test+then-c-eq10}
@@ -54,5 +52,7 @@ pub loop-j-preserved : goal.loop-j-preserved
 loop-j-preserved c = sofar_lost c.args.s.now (c.args.f * 16) c.loop-j.i c.loop-j.j c.loop-j.vals c.loop-j.n c.loop-j.invariant c.in-Read.v c.in-Read.next c.code_after-j.result (value_more c.args.s.now c.loop-j.i c.loop-j.j (omega arith) (λ x. c.if-c-eq10.false (c.format_at-c.ensures ∙ x)) (omega arith) (ap (λ (x : ℕ). shapes_over x (drop c.loop-j.i c.args.s.now)) (sym c.format_at-c.ensures) ∙ sym c.over.ensures ∙ c.if-over.false) c.in-Read.v c.in-Read.next (ap (number_of c.args.s.now) (sym c.in-Read.is) ∙ c.value.ensures ∙ ap (λ (x : ℕ). value_at x (drop c.loop-j.i c.args.s.now)) c.format_at-c.ensures) ∙ ap (λ (k : ℕ). joined (c.in-Read.v ∷ []) (left c.args.s.now c.in-Read.next k)) (ap (code_after c.loop-j.j) (sym c.format_at-c.ensures) ∙ sym c.code_after-j.ensures)) (omega arith)
 
 pub returns : goal.returns
-returns c = elim c.loop-j-test.branch [ else-loop-j-test w ↦ sofar_done c.args.s.now (c.args.f * 16) c.loop-j.i c.loop-j.j c.loop-j.vals c.loop-j.n c.loop-j.invariant c.full_row.result c.full_row.ensures.0 c.full_row.ensures.1 c.full_row.ensures.2 c.full_row.ensures.3 (left_out c.args.s.now c.loop-j.i c.loop-j.j w.loop-j-test.false)
-    | then-loop-j-test+then-c-eq10 w ↦ sofar_done c.args.s.now (c.args.f * 16) c.loop-j.i c.loop-j.j c.loop-j.vals c.loop-j.n c.loop-j.invariant c.full_row.result c.full_row.ensures.0 c.full_row.ensures.1 c.full_row.ensures.2 c.full_row.ensures.3 (left_end c.args.s.now c.loop-j.i c.loop-j.j w.loop-j-test.true (sym w.format_at-c.ensures ∙ w.if-c-eq10.true)) ]
+returns c = elim c.loop-j-test.branch [
+  | else-loop-j-test w ↦ sofar_done c.args.s.now (c.args.f * 16) c.loop-j.i c.loop-j.j c.loop-j.vals c.loop-j.n c.loop-j.invariant c.full_row.result c.full_row.ensures.0 c.full_row.ensures.1 c.full_row.ensures.2 c.full_row.ensures.3 (left_out c.args.s.now c.loop-j.i c.loop-j.j w.loop-j-test.false)
+  | then-loop-j-test+then-c-eq10 w ↦ sofar_done c.args.s.now (c.args.f * 16) c.loop-j.i c.loop-j.j c.loop-j.vals c.loop-j.n c.loop-j.invariant c.full_row.result c.full_row.ensures.0 c.full_row.ensures.1 c.full_row.ensures.2 c.full_row.ensures.3 (left_end c.args.s.now c.loop-j.i c.loop-j.j w.loop-j-test.true (sym w.format_at-c.ensures ∙ w.if-c-eq10.true))
+]

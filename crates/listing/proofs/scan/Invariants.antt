@@ -1,15 +1,6 @@
-use mathlib.Core.Path.{◌≡◌, refl, sym, ap, ◌∙◌}
-use mathlib.Core.List.{◌∷◌, []}
-use mathlib.Core.Logic.{⊎_elim}
-use Prim.Native.Nat.{ℕ, ◌+◌, ◌*◌, ◌-◌, ◌≤◌, ◌<◌}
-use lib.ListN.{length, drop, get_or}
-use Rattle.listing.specs.Scan.{formats, joined}
-use Rattle.listing.specs.Num.{number_of}
-use Rattle.listing.specs.Rows.{Sofar, sofar_start, sofar_on, sofar_bad, sofar_done, sofar_kept, sofar_lost, nothing_stored, left, left_out, left_end, byte_in, byte_is, byte_not, left_over, value_none, value_more, shapes_over, value_at, code_after, less}
-use borrow.Author.Tests.{not-true, not-false}
-use Rattle.definition.specs.Format.{begins_with}
-use borrow.Author.Rules.{rules}
-use native.Mathlib.Omega.{arith}
+use Prim.Native.Nat.{◌+◌, ◌*◌, ◌-◌}
+use lib.ListN.{length}
+use Rattle.listing.specs.Rows.{Sofar}
 use Rattle.listing.proofs.scan.Given as goal
 
 abbrev pub invariant-loop-j : goal.invariant-loop-j

@@ -1,9 +1,7 @@
-use mathlib.Core.Path.{◌≡◌, refl, sym, ap, ◌∙◌}
-use native.Mathlib.Omega.{arith}
-use borrow.Author.Rules.{rules}
+use mathlib.Core.Path.{sym, ap, ◌∙◌}
 use lib.ListN.{drop}
-use Rattle.listing.specs.Num.{number_of, after}
-use Rattle.listing.specs.Shape.{closed_bad, closed_got, top_bad, top_got, scalar_bad, scalar_none, scalar_got, flat_bad, flat_none, flat_none_size, flat_got, small_k, small_n, first_top, first_scalar, first_flat}
+use Rattle.listing.specs.Num.{number_of}
+use Rattle.listing.specs.Shape.{first_top, first_scalar, first_flat}
 use Rattle.listing.proofs.shape.Goals as goal
 
 pub returns-in-Read : goal.returns-in-Read

@@ -1,9 +1,8 @@
-use mathlib.Core.Path.{◌≡◌, refl, sym, ap, ◌∙◌}
+use mathlib.Core.Path.{sym, ap, ◌∙◌}
 use native.Mathlib.Omega.{arith}
-use borrow.Author.Rules.{rules}
 use lib.ListN.{drop}
 use Rattle.listing.specs.Num.{number_of, after}
-use Rattle.listing.specs.Shape.{closed_bad, closed_got, top_bad, top_got, scalar_bad, scalar_none, scalar_got, flat_bad, flat_none, flat_none_size, flat_got, small_k, small_n, first_top, first_scalar, first_flat}
+use Rattle.listing.specs.Shape.{flat_bad, flat_none, flat_none_size, flat_got, small_k, small_n}
 use Rattle.listing.proofs.shape_flat.Goals as goal
 
 pub returns-in_default : goal.returns-in_default

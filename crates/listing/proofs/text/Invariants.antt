@@ -1,10 +1,7 @@
-use mathlib.Core.Path.{◌≡◌, refl, sym, ap, ◌∙◌}
-use Prim.Native.Nat.{◌≤◌, ◌<◌, ◌-◌, ◌+◌}
-use native.Mathlib.Omega.{arith}
-use borrow.Author.Rules.{rules}
-use lib.ListN.{length, drop, get_or}
+use mathlib.Core.Path.{◌≡◌}
+use Prim.Native.Nat.{◌≤◌, ◌-◌}
+use lib.ListN.{length, drop}
 use Rattle.definition.specs.Format.{strip}
-use Rattle.listing.specs.Num.{text_short, text_differs, text_more, text_done}
 use Rattle.listing.proofs.text.Given as goal
 
 abbrev pub invariant-loop-j : goal.invariant-loop-j

@@ -1,8 +1,6 @@
-use mathlib.Core.Path.{◌≡◌, refl, sym, ap, ◌∙◌}
-use native.Mathlib.Omega.{arith}
-use borrow.Author.Rules.{rules}
+use mathlib.Core.Path.{◌∙◌}
 use lib.ListN.{drop}
-use Rattle.listing.specs.Rows.{over_other, over_here, over_end, value_first, value_second, value_number, after_same, after_next}
+use Rattle.listing.specs.Rows.{value_first, value_second, value_number}
 use Rattle.listing.proofs.value.Goals as goal
 
 pub returns-then-c-eq-SHAPE : goal.returns-then-c-eq-SHAPE

@@ -1,6 +1,3 @@
-use mathlib.Core.Bool.{◌&&◌}
-use lib.Dec.{leb}
-use borrow.Author.Rules.{rules}
 use Rattle.listing.proofs.whole.Goals as goal
 
 pub returns-then-ok : goal.returns-then-ok

@@ -1,6 +1,5 @@
 -- `nesting::break_step` meets its contract. Assumes nothing.
 use Rattle.nesting.proofs.Laws.{break_in, break_out}
-use borrow.Author.Rules.{rules}
 use native.Mathlib.Omega.{arith}
 use Rattle.nesting.proofs.break_step.Goals as goal
 

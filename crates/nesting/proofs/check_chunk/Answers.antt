@@ -1,6 +1,5 @@
 use Rattle.bytecode.specs.Meaning.{chunk_of}
 use Rattle.nesting.proofs.Parts.{coded}
-use borrow.Author.Rules.{rules}
 use Rattle.nesting.proofs.check_chunk.Goals as goal
 
 pub returns-then-code-lt256 : goal.returns-then-code-lt256

@@ -1,9 +1,8 @@
 -- `nesting::check_code` meets its contract. The loop keeps: in every chunk that has these instructions all rules hold below p, and the three slices
 -- hold the blocks open at p. Assumes nothing.
-use mathlib.Core.Path.{◌≡◌, ◌∙◌}
-use Prim.Native.Nat.{◌≤◌, ◌-◌, ◌<◌}
-use lib.ListN.{length, length-set}
-use Rattle.nesting.proofs.Walk.{States, start, bads, stays, pops_none, pops, pushes, ends_well}
+use mathlib.Core.Path.{◌∙◌}
+use lib.ListN.{length-set}
+use Rattle.nesting.proofs.Walk.{start, bads, stays, pops_none, pops, pushes, ends_well}
 use borrow.Author.Rules.{rules}
 use native.Mathlib.Omega.{arith}
 use Rattle.nesting.proofs.check_code.Goals as goal

@@ -1,11 +1,9 @@
 -- `nesting::check_code` meets its contract. The loop keeps: in every chunk that has these instructions all rules hold below p, and the three slices
 -- hold the blocks open at p. Assumes nothing.
-use mathlib.Core.Path.{◌≡◌, ◌∙◌}
+use mathlib.Core.Path.{◌≡◌}
 use Prim.Native.Nat.{◌≤◌, ◌-◌, ◌<◌}
-use lib.ListN.{length, length-set}
-use Rattle.nesting.proofs.Walk.{States, start, bads, stays, pops_none, pops, pushes, ends_well}
-use borrow.Author.Rules.{rules}
-use native.Mathlib.Omega.{arith}
+use lib.ListN.{length}
+use Rattle.nesting.proofs.Walk.{States}
 use Rattle.nesting.proofs.check_code.Given as goal
 
 abbrev pub invariant-loop-p : goal.invariant-loop-p

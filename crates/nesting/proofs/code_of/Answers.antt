@@ -2,7 +2,6 @@
 use Rattle.bytecode.specs.Tables.{cap}
 use mathlib.Core.Path.{refl}
 use Rattle.nesting.proofs.Parts.{code_is}
-use borrow.Author.Rules.{rules}
 use native.Mathlib.Omega.{arith}
 use Rattle.nesting.proofs.code_of.Goals as goal
 

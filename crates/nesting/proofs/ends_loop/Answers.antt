@@ -5,7 +5,6 @@ use mathlib.Core.List.{[], ◌∷◌}
 use Rattle.nesting.proofs.Laws.{both_tell, no_tell}
 use Rattle.nesting.proofs.Parts.{differs}
 use Rattle.nesting.specs.declared.Part.TheVariants.{EndLoop}
-use borrow.Author.Rules.{rules}
 use Rattle.nesting.proofs.ends_loop.Goals as goal
 
 pub returns-in-EndLoop : goal.returns-in-EndLoop

@@ -1,7 +1,6 @@
 -- `nesting::first_deep` meets its contract. Assumes nothing.
 use borrow.Enum.Refused.{opened}
 use Rattle.nesting.proofs.Found.{deep_new, deep_none, deep_old}
-use borrow.Author.Rules.{rules}
 use Rattle.nesting.proofs.first_deep.Goals as goal
 
 pub returns-then-h-gt8 : goal.returns-then-h-gt8

@@ -1,6 +1,5 @@
 -- `nesting::first_found` meets its contract. Assumes nothing.
 use Rattle.nesting.proofs.Found.{found_new, found_old}
-use borrow.Author.Rules.{rules}
 use Rattle.nesting.proofs.first_found.Goals as goal
 
 pub returns-in-Nothing : goal.returns-in-Nothing

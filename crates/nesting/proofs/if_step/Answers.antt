@@ -2,11 +2,9 @@
 use borrow.Enum.Refused.{opened}
 use mathlib.Core.Path.{sym, ◌∙◌, refl}
 use mathlib.Core.List.{[], ◌∷◌}
-use Prim.Native.Nat.{◌-◌}
 use Rattle.nesting.proofs.Laws.{if_short, else_yes, else_no}
 use Rattle.nesting.proofs.Parts.{differs}
 use Rattle.nesting.specs.declared.Part.TheVariants.{Else}
-use borrow.Author.Rules.{rules}
 use native.Mathlib.Omega.{arith}
 use Rattle.nesting.proofs.if_step.Goals as goal
 

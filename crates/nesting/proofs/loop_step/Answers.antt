@@ -1,6 +1,5 @@
 -- `nesting::loop_step` meets its contract. Assumes nothing.
 use Rattle.nesting.proofs.Laws.{loop_short, loop_push, loop_open}
-use borrow.Author.Rules.{rules}
 use native.Mathlib.Omega.{arith}
 use Rattle.nesting.proofs.loop_step.Goals as goal
 

@@ -1,6 +1,5 @@
 -- `nesting::one_arm` meets its contract. Assumes nothing.
 use Rattle.nesting.proofs.Laws.{one_push, one_open}
-use borrow.Author.Rules.{rules}
 use Rattle.nesting.proofs.one_arm.Goals as goal
 
 pub returns-then-ends_if : goal.returns-then-ends_if

@@ -1,6 +1,5 @@
 -- `nesting::part_at` meets its contract. Assumes nothing.
 use Rattle.nesting.proofs.Parts.{part_inside, part_past}
-use borrow.Author.Rules.{rules}
 use Rattle.nesting.proofs.part_at.Goals as goal
 
 pub returns-then-p-size : goal.returns-then-p-size

@@ -2,7 +2,6 @@
 use mathlib.Core.Path.{sym, ◌∙◌}
 use Rattle.nesting.proofs.Laws.{told, other_good, else_good, end_if_good, end_loop_good, break_good}
 use Rattle.nesting.specs.declared.Part.TheVariants.{If, Loop}
-use borrow.Author.Rules.{rules}
 use Rattle.nesting.proofs.step_at.Goals as goal
 
 pub returns-in-Other : goal.returns-in-Other

@@ -1,6 +1,5 @@
 -- `nesting::two_arms` meets its contract. Assumes nothing.
 use Rattle.nesting.proofs.Laws.{two_short, two_push, two_open}
-use borrow.Author.Rules.{rules}
 use native.Mathlib.Omega.{arith}
 use Rattle.nesting.proofs.two_arms.Goals as goal
 

@@ -1,7 +1,6 @@
 -- `printed::entry` meets its contract. Assumes nothing.
 use mathlib.Core.Path.{sym}
 use lib.ListN.{get_or-eq_default}
-use borrow.Author.Rules.{rules}
 use Rattle.printed.proofs.entry.Goals as goal
 
 pub returns-else-i-sheet : goal.returns-else-i-sheet

@@ -1,13 +1,12 @@
 -- `printed::print_refused` meets its contract. The first i numbers are written. Assumes nothing.
-use mathlib.Core.Path.{◌≡◌, refl}
-use mathlib.Core.List.{[], ◌∷◌, map}
-use Prim.Native.Nat.{◌+◌, ◌*◌, ◌-◌, ◌≤◌}
+use mathlib.Core.Path.{refl}
+use mathlib.Core.List.{[]}
+use Prim.Native.Nat.{◌≤◌}
 use lib.ListN.{length, get_or}
 use Rattle.definition.specs.Format.{bytes, decimal}
-use Rattle.definition.specs.Printed.{words}
 use Rattle.theorems.specs.Decimal.{decimal_short}
-use Rattle.printed.proofs.Lines.{numbers-left, numbers_begun, numbers_more, numbers_none}
-use Rattle.printed.proofs.Writes.{Left, at_start, holds, begun, part, last}
+use Rattle.printed.proofs.Lines.{numbers_begun, numbers_more, numbers_none}
+use Rattle.printed.proofs.Writes.{at_start, holds, begun, part, last}
 use borrow.Author.Rules.{rules}
 use native.Mathlib.Omega.{arith}
 use Rattle.printed.proofs.print_refused.Goals as goal

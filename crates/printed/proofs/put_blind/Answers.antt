@@ -3,7 +3,6 @@ use mathlib.Core.Path.{sym}
 use Rattle.definition.specs.Format.{bytes}
 use Rattle.printed.proofs.Lines.{plain_word, marked_word}
 use Rattle.printed.proofs.Writes.{renamed}
-use borrow.Author.Rules.{rules}
 use Rattle.printed.proofs.put_blind.Goals as goal
 
 pub returns-then-b-eq0 : goal.returns-then-b-eq0

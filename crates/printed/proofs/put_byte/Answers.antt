@@ -1,6 +1,5 @@
 -- `printed::put_byte` meets its contract. Assumes nothing.
 use Rattle.printed.proofs.Writes.{one_byte}
-use borrow.Author.Rules.{rules}
 use Rattle.printed.proofs.put_byte.Goals as goal
 
 pub returns : goal.returns

@@ -1,14 +1,10 @@
 -- `printed::put_chunks` meets its contract. The lines of the first k chunks are written, and `base` counts their instructions. Assumes nothing.
-use mathlib.Core.Path.{◌≡◌}
-use Prim.Native.Nat.{◌+◌, ◌*◌, ◌-◌, ◌≤◌}
-use lib.ListN.{length}
-use Rattle.definition.specs.Printed.{print_chunks, sizes}
+use Prim.Native.Nat.{◌+◌}
 use Rattle.bytecode.specs.Tables.{cap}
-use Rattle.bytecode.specs.Meaning.{module_of, count_low}
+use Rattle.bytecode.specs.Meaning.{count_low}
 use Rattle.sheets.proofs.Laws.{Sum, sum_start, sum_more}
-use Rattle.printed.specs.Texts.{of_sheets}
-use Rattle.printed.proofs.Lines.{chunks_left, chunks_begun, chunks_more, chunks_none}
-use Rattle.printed.proofs.Writes.{Left, begun, part, all}
+use Rattle.printed.proofs.Lines.{chunks_begun, chunks_more, chunks_none}
+use Rattle.printed.proofs.Writes.{begun, part, all}
 use borrow.Author.Rules.{rules}
 use native.Mathlib.Omega.{arith}
 use Rattle.printed.proofs.put_chunks.Goals as goal

@@ -3,14 +3,11 @@ use mathlib.Core.Path.{◌≡◌}
 use Prim.Native.Nat.{◌+◌, ◌*◌, ◌-◌, ◌≤◌}
 use lib.ListN.{length}
 use Rattle.definition.specs.Printed.{print_chunks, sizes}
-use Rattle.bytecode.specs.Tables.{cap}
-use Rattle.bytecode.specs.Meaning.{module_of, count_low}
-use Rattle.sheets.proofs.Laws.{Sum, sum_start, sum_more}
+use Rattle.bytecode.specs.Meaning.{module_of}
+use Rattle.sheets.proofs.Laws.{Sum}
 use Rattle.printed.specs.Texts.{of_sheets}
-use Rattle.printed.proofs.Lines.{chunks_left, chunks_begun, chunks_more, chunks_none}
-use Rattle.printed.proofs.Writes.{Left, begun, part, all}
-use borrow.Author.Rules.{rules}
-use native.Mathlib.Omega.{arith}
+use Rattle.printed.proofs.Lines.{chunks_left}
+use Rattle.printed.proofs.Writes.{Left}
 use Rattle.printed.proofs.put_chunks.Given as goal
 
 abbrev pub invariant-loop-k : goal.invariant-loop-k

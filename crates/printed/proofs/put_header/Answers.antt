@@ -4,7 +4,6 @@ use Rattle.definition.specs.Printed.{words}
 use Rattle.printed.specs.Texts.{header}
 use Rattle.printed.proofs.Lines.{header_long}
 use Rattle.printed.proofs.Writes.{both}
-use borrow.Author.Rules.{rules}
 use native.Mathlib.Omega.{arith}
 use Rattle.printed.proofs.put_header.Goals as goal
 

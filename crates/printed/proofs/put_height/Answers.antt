@@ -3,7 +3,6 @@ use mathlib.Core.Path.{sym, ap}
 use lib.ListN.{length}
 use Rattle.printed.proofs.Lines.{height_none, height_some}
 use Rattle.printed.proofs.Writes.{renamed}
-use borrow.Author.Rules.{rules}
 use native.Mathlib.Omega.{arith}
 use Rattle.printed.proofs.put_height.Goals as goal
 

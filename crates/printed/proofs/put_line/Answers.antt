@@ -3,7 +3,6 @@ use Rattle.definition.specs.Printed.{words}
 use Rattle.printed.specs.Texts.{line}
 use Rattle.printed.proofs.Lines.{line_long, blind_long}
 use Rattle.printed.proofs.Writes.{both}
-use borrow.Author.Rules.{rules}
 use native.Mathlib.Omega.{arith}
 use Rattle.printed.proofs.put_line.Goals as goal
 

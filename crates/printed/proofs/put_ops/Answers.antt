@@ -1,11 +1,9 @@
 -- `printed::put_ops` meets its contract. The lines of the first i instructions are written. Assumes nothing.
-use mathlib.Core.Path.{◌≡◌}
-use Prim.Native.Nat.{◌+◌, ◌*◌, ◌-◌, ◌≤◌}
+use Prim.Native.Nat.{◌≤◌}
 use lib.ListN.{length}
-use Rattle.definition.specs.Printed.{print_ops}
-use Rattle.printed.specs.Texts.{line, of_sheets}
-use Rattle.printed.proofs.Lines.{line_short, ops_left, ops_begun, ops_more, ops_none}
-use Rattle.printed.proofs.Writes.{Left, begun, part, all}
+use Rattle.printed.specs.Texts.{line}
+use Rattle.printed.proofs.Lines.{line_short, ops_begun, ops_more, ops_none}
+use Rattle.printed.proofs.Writes.{begun, part, all}
 use borrow.Author.Rules.{rules}
 use native.Mathlib.Omega.{arith}
 use Rattle.printed.proofs.put_ops.Goals as goal

@@ -3,11 +3,9 @@ use mathlib.Core.Path.{◌≡◌}
 use Prim.Native.Nat.{◌+◌, ◌*◌, ◌-◌, ◌≤◌}
 use lib.ListN.{length}
 use Rattle.definition.specs.Printed.{print_ops}
-use Rattle.printed.specs.Texts.{line, of_sheets}
-use Rattle.printed.proofs.Lines.{line_short, ops_left, ops_begun, ops_more, ops_none}
-use Rattle.printed.proofs.Writes.{Left, begun, part, all}
-use borrow.Author.Rules.{rules}
-use native.Mathlib.Omega.{arith}
+use Rattle.printed.specs.Texts.{of_sheets}
+use Rattle.printed.proofs.Lines.{ops_left}
+use Rattle.printed.proofs.Writes.{Left}
 use Rattle.printed.proofs.put_ops.Given as goal
 
 abbrev pub invariant-loop-i : goal.invariant-loop-i

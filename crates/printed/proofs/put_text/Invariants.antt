@@ -2,10 +2,7 @@
 use mathlib.Core.Path.{◌≡◌}
 use Prim.Native.Nat.{◌≤◌, ◌-◌}
 use lib.ListN.{length}
-use lib.Seq.{paste, paste-zero}
-use Rattle.printed.proofs.Writes.{copy_long, copy_more, copy_done}
-use borrow.Author.Rules.{rules}
-use native.Mathlib.Omega.{arith}
+use lib.Seq.{paste}
 use Rattle.printed.proofs.put_text.Given as goal
 
 abbrev pub invariant-loop-i : goal.invariant-loop-i

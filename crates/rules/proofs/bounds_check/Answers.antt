@@ -1,6 +1,5 @@
 use Rattle.definition.specs.Instructions.{shaped, BoundsCheck}
 use Rattle.rules.proofs.Rules.{quiet, quiet_checked}
-use borrow.Author.Rules.{rules}
 use Rattle.rules.proofs.bounds_check.Goals as goal
 
 pub returns : goal.returns

@@ -5,7 +5,6 @@ use mathlib.Core.List.{◌∷◌, []}
 use Rattle.definition.specs.Basics.{unless}
 use Rattle.answer.specs.Answer.{refusal, fields}
 use Rattle.rules.proofs.Tests.{enum_free, enum_decides}
-use borrow.Author.Rules.{rules}
 use Rattle.rules.proofs.check_enum_size.Goals as goal
 
 pub returns-then-count-eq0 : goal.returns-then-count-eq0

@@ -1,7 +1,6 @@
 use borrow.Enum.Refused.{opened}
 use Rattle.answer.specs.Answer.{refusal, fields}
 use Rattle.rules.proofs.Tests.{flat_other, flat_inside, flat_outside}
-use borrow.Author.Rules.{rules}
 use Rattle.rules.proofs.check_flat.Goals as goal
 
 pub returns-in_default : goal.returns-in_default

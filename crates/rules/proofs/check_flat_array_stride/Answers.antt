@@ -5,7 +5,6 @@ use mathlib.Core.List.{◌∷◌, []}
 use Prim.Native.Nat.{ℕ}
 use Rattle.answer.specs.Answer.{refusal, fields}
 use Rattle.rules.proofs.Tests.{index_other, index_wide0, index_even, index_odd}
-use borrow.Author.Rules.{rules}
 use Rattle.rules.proofs.check_flat_array_stride.Goals as goal
 
 pub returns-in_default : goal.returns-in_default

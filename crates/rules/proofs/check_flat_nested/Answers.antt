@@ -2,7 +2,6 @@ use mathlib.Core.Path.{ap₂, ◌∙◌}
 use Prim.Native.Nat.{ℕ, ◌+◌}
 use Rattle.definition.specs.Tests.{field_test}
 use Rattle.shapes.specs.Model.{value_of}
-use borrow.Author.Rules.{rules}
 use Rattle.rules.proofs.check_flat_nested.Goals as goal
 
 pub returns : goal.returns

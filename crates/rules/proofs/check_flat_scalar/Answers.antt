@@ -3,7 +3,6 @@ use Prim.Native.Nat.{ℕ, ◌+◌}
 use Rattle.definition.specs.Tests.{field_test}
 use Rattle.shapes.specs.Model.{value_of}
 use Rattle.value_layout.proofs.Laws.{width_is}
-use borrow.Author.Rules.{rules}
 use Rattle.rules.proofs.check_flat_scalar.Goals as goal
 
 pub returns : goal.returns

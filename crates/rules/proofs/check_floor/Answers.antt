@@ -1,6 +1,5 @@
 use Rattle.answer.specs.Answer.{refusal, fields}
 use Rattle.rules.proofs.Tests.{floor_breach, floor_none, floor_kept}
-use borrow.Author.Rules.{rules}
 use Rattle.rules.proofs.check_floor.Goals as goal
 
 pub returns-then-floor-eq0 : goal.returns-then-floor-eq0

@@ -1,14 +1,13 @@
 use Prim.Native.Nat.{ℕ}
-use mathlib.Core.Path.{◌≡◌, refl, sym, ap, ◌∙◌}
-use mathlib.Core.Option.{Option, none, some}
+use mathlib.Core.Path.{refl, sym, ap, ◌∙◌}
+use mathlib.Core.Option.{Option, some}
 use mathlib.Core.List.{List}
 use Rattle.definition.specs.Basics.{first}
-use Rattle.definition.specs.Walk.{floor_test, need_test}
-use Rattle.answer.specs.Answer.{refusal, is_none, fields}
+use Rattle.definition.specs.Walk.{need_test}
+use Rattle.answer.specs.Answer.{refusal, fields}
 use Rattle.answer.proofs.Laws.{passed_yes, passed_no}
 use Rattle.rules.proofs.Tests.{is_none_eq, not_none}
 use Rattle.rules.proofs.Steps.{first_refuses, under, not_under}
-use borrow.Author.Rules.{rules}
 use Rattle.rules.proofs.check_need.Goals as goal
 
 pub returns-in_default : goal.returns-in_default

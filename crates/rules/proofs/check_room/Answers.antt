@@ -1,12 +1,10 @@
-use mathlib.Core.Path.{◌≡◌, refl, sym, ap, ◌∙◌}
-use mathlib.Core.Option.{Option, none, some}
-use Rattle.definition.specs.Walk.{height_test}
-use Rattle.answer.specs.Answer.{refusal, is_none, fields}
+use mathlib.Core.Path.{refl, sym}
+use mathlib.Core.Option.{some}
+use Rattle.answer.specs.Answer.{refusal, fields}
 use Rattle.rules.proofs.Tests.{is_none_eq, not_none}
 use Rattle.answer.proofs.Laws.{passed_yes, passed_no}
 use Rattle.rules.proofs.Steps.{first_refuses, over, enough}
 use native.Mathlib.Omega.{arith}
-use borrow.Author.Rules.{rules}
 use Rattle.rules.proofs.check_room.Goals as goal
 
 pub returns-in_default : goal.returns-in_default

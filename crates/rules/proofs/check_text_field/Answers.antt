@@ -6,7 +6,6 @@ use mathlib.Core.List.{◌∷◌, []}
 use Rattle.shapes.specs.Model.{places_of}
 use Rattle.answer.specs.Answer.{refusal, fields}
 use Rattle.rules.proofs.Tests.{text_not, text_other, text_open, text_there, text_missing}
-use borrow.Author.Rules.{rules}
 use Rattle.rules.proofs.check_text_field.Goals as goal
 
 pub returns-then-kind-ne-TEXT : goal.returns-then-kind-ne-TEXT

@@ -1,6 +1,5 @@
 use mathlib.Core.Path.{◌∙◌}
 use Rattle.rules.proofs.Tests.{const_missing, const_kind, const_other}
-use borrow.Author.Rules.{rules}
 use Rattle.rules.proofs.const_abs.Goals as goal
 
 pub returns-in_default : goal.returns-in_default

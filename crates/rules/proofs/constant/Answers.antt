@@ -5,7 +5,6 @@ use Rattle.definition.specs.Instructions.{shaped, Const}
 use Rattle.definition.specs.Effects.{const_shape}
 use Rattle.bytecode.specs.Meaning.{chunk_of}
 use Rattle.rules.proofs.Rules.{quiet, quiet_const}
-use borrow.Author.Rules.{rules}
 use Rattle.rules.proofs.constant.Goals as goal
 
 pub returns : goal.returns

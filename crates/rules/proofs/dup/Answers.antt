@@ -1,6 +1,5 @@
 use Rattle.definition.specs.Instructions.{shaped, Dup}
 use Rattle.rules.proofs.Rules.{quiet, quiet_dup}
-use borrow.Author.Rules.{rules}
 use Rattle.rules.proofs.dup.Goals as goal
 
 pub returns : goal.returns

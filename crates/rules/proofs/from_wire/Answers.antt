@@ -1,6 +1,5 @@
 use Rattle.shapes.specs.Model.{shape_of}
 use Rattle.rules.proofs.Tests.{wire_unknown, wire_scalar, wire_composite}
-use borrow.Author.Rules.{rules}
 use Rattle.rules.proofs.from_wire.Goals as goal
 
 pub returns-in-Unknown : goal.returns-in-Unknown

@@ -2,7 +2,6 @@ use mathlib.Core.Path.{sym, ap, ◌∙◌}
 use Prim.Native.Nat.{ℕ}
 use lib.IntN.{pos, ◌-ℤ◌}
 use Rattle.rules.proofs.Rules.{quiet, quiet_generic}
-use borrow.Author.Rules.{rules}
 use Rattle.rules.proofs.generic.Goals as goal
 
 pub returns : goal.returns

@@ -1,7 +1,6 @@
 use mathlib.Core.Path.{sym, ◌∙◌}
 use Rattle.shapes.specs.Model.{value_of}
 use Rattle.rules.proofs.Rules.{nested_passed, nested_refused}
-use borrow.Author.Rules.{rules}
 use Rattle.rules.proofs.get_flat_nested.Goals as goal
 
 pub returns-then-passed : goal.returns-then-passed

@@ -6,7 +6,6 @@ use Rattle.definition.specs.Tests.{index_test, test_if, text_index_test}
 use Rattle.value_layout.proofs.Laws.{width_is}
 use Rattle.shapes.specs.Model.{value_of}
 use Rattle.rules.proofs.Rules.{elem_tested, elem_refused}
-use borrow.Author.Rules.{rules}
 use Rattle.rules.proofs.get_index.Goals as goal
 
 pub returns-then-passed : goal.returns-then-passed

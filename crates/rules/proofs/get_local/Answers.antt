@@ -4,7 +4,6 @@ use Rattle.frame.specs.Model.{state_of}
 use Rattle.frame.proofs.Stores.{get_past}
 use Rattle.rules.proofs.Rules.{quiet, quiet_local}
 use native.Mathlib.Omega.{arith}
-use borrow.Author.Rules.{rules}
 use Rattle.rules.proofs.get_local.Goals as goal
 
 pub returns-then-index-locals : goal.returns-then-index-locals

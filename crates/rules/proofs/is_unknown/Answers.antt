@@ -1,6 +1,5 @@
 use borrow.Enum.Refused.{opened}
 use Rattle.rules.proofs.Tests.{shape_unknown, shape_known}
-use borrow.Author.Rules.{rules}
 use Rattle.rules.proofs.is_unknown.Goals as goal
 
 pub returns-in-Unknown : goal.returns-in-Unknown

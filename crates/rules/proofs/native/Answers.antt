@@ -10,7 +10,6 @@ use Rattle.definition.specs.Instructions.{shaped, Native}
 use Rattle.definition.specs.Effects.{shape_of, returned_native}
 use Rattle.rules.specs.Rules.{passing_of}
 use Rattle.rules.proofs.Rules.{quiet, quiet_native}
-use borrow.Author.Rules.{rules}
 use Rattle.rules.proofs.native.Goals as goal
 
 pub returns-then-n-lt128 : goal.returns-then-n-lt128

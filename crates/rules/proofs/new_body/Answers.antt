@@ -1,5 +1,4 @@
 use Rattle.rules.proofs.Rules.{body_many, body_known, body_open}
-use borrow.Author.Rules.{rules}
 use Rattle.rules.proofs.new_body.Goals as goal
 
 pub returns-in-Many : goal.returns-in-Many

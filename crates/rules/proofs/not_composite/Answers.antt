@@ -2,7 +2,6 @@ use borrow.Enum.Refused.{opened}
 use mathlib.Core.Path.{refl}
 use Rattle.answer.specs.Answer.{refusal, fields}
 use Rattle.rules.proofs.Tests.{access_unknown, access_scalar}
-use borrow.Author.Rules.{rules}
 use Rattle.rules.proofs.not_composite.Goals as goal
 
 pub returns-in_default : goal.returns-in_default

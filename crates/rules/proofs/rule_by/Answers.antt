@@ -1,4 +1,4 @@
-use mathlib.Core.Path.{◌≡◌, sym, ap, ◌∙◌}
+use mathlib.Core.Path.{sym, ap, ◌∙◌}
 use mathlib.Core.List.{[]}
 use Prim.Native.Nat.{ℕ, ◌≤◌}
 use native.Mathlib.Omega.{arith}
@@ -13,7 +13,6 @@ use Rattle.rules.proofs.Rules.{generic_net}
 use Rattle.rules.proofs.Codes.{as_const, as_local, as_dup, as_stored, as_checked, as_index, as_part, as_yield, as_enum, as_struct, as_verified, as_external}
 use Rattle.rules.proofs.Codes.{as_element, as_flat, as_nested, index_kind, part_kind, flat_kind, nested_kind, generic_code, no_code}
 use Rattle.rules.proofs.Codes.{looks_dup, looks_index, looks_part, looks_flat, looks_nested}
-use borrow.Author.Rules.{rules}
 use Rattle.rules.proofs.rule_by.Goals as goal
 
 pub overflow_cast-i : goal.overflow_cast-i

@@ -1,6 +1,5 @@
 use Rattle.definition.specs.Instructions.{shaped, SetDataIndexed}
 use Rattle.rules.proofs.Rules.{quiet, quiet_stored}
-use borrow.Author.Rules.{rules}
 use Rattle.rules.proofs.set_data_indexed.Goals as goal
 
 pub returns : goal.returns

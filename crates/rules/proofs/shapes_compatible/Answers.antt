@@ -1,5 +1,4 @@
 use Rattle.rules.proofs.Tests.{fits_unknown, fits_either, fits_scalars, fits_not, fits_nor, fits_kind, fits_apart}
-use borrow.Author.Rules.{rules}
 use Rattle.rules.proofs.shapes_compatible.Goals as goal
 
 pub returns-in-Unknown : goal.returns-in-Unknown

@@ -1,7 +1,5 @@
-use mathlib.Core.Path.{◌≡◌, sym, ap, ◌∙◌}
-use Prim.Native.Nat.{ℕ, ◌-◌, ◌*◌, ◌≤◌}
-use lib.ListN.{take}
-use Rattle.definition.specs.Tests.{text_elements}
+use mathlib.Core.Path.{sym, ap, ◌∙◌}
+use Prim.Native.Nat.{ℕ}
 use Rattle.shapes.proofs.Text.{next_at}
 use mathlib.Core.Option.{some}
 use mathlib.Core.List.{◌∷◌, []}

@@ -1,13 +1,7 @@
-use mathlib.Core.Path.{◌≡◌, sym, ap, ◌∙◌}
-use Prim.Native.Nat.{ℕ, ◌-◌, ◌*◌, ◌≤◌}
+use mathlib.Core.Path.{◌≡◌}
+use Prim.Native.Nat.{◌-◌, ◌*◌, ◌≤◌}
 use lib.ListN.{take}
 use Rattle.definition.specs.Tests.{text_elements}
-use Rattle.shapes.proofs.Text.{next_at}
-use mathlib.Core.Option.{some}
-use mathlib.Core.List.{◌∷◌, []}
-use Rattle.answer.specs.Answer.{refusal, fields}
-use Rattle.rules.proofs.Tests.{elements_start, elements_more, elements_stop, elements_end}
-use borrow.Author.Rules.{rules}
 use Rattle.rules.proofs.text_elements.Given as goal
 
 abbrev pub invariant-loop-i : goal.invariant-loop-i

@@ -3,7 +3,6 @@ use Rattle.definition.specs.Shapes.{from_wire}
 use Rattle.definition.specs.Instructions.{shaped, Yield, Sig}
 use Rattle.bytecode.specs.Meaning.{chunk_of, chunk_sig}
 use Rattle.rules.proofs.Rules.{quiet, quiet_yield}
-use borrow.Author.Rules.{rules}
 use Rattle.rules.proofs.yields.Goals as goal
 
 pub returns : goal.returns

@@ -1,7 +1,7 @@
 use mathlib.Core.Path.{◌≡◌, subst}
-use Prim.Native.Nat.{ℕ, ◌-◌, ◌≤◌}
-use lib.ListN.{length, take}
-use mathlib.Core.List.{List, ◌++◌}
+use Prim.Native.Nat.{ℕ}
+use lib.ListN.{take}
+use mathlib.Core.List.{◌++◌}
 use Rattle.definition.specs.Effects.{shift}
 use Rattle.shapes.specs.Text.{Holds}
 use Rattle.shapes.proofs.Text.{hold_same, shift_none, shift-more}

@@ -1,12 +1,9 @@
-use mathlib.Core.Path.{◌≡◌, subst}
+use mathlib.Core.Path.{◌≡◌}
 use Prim.Native.Nat.{ℕ, ◌-◌, ◌≤◌}
 use lib.ListN.{length, take}
 use mathlib.Core.List.{List, ◌++◌}
 use Rattle.definition.specs.Effects.{shift}
 use Rattle.shapes.specs.Text.{Holds}
-use Rattle.shapes.proofs.Text.{hold_same, shift_none, shift-more}
-use borrow.Author.Rules.{rules}
-use native.Mathlib.Omega.{arith}
 use Rattle.shapes.proofs.add_places.Given as goal
 
 abbrev pub invariant-loop-i : goal.invariant-loop-i

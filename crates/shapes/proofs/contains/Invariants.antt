@@ -1,11 +1,8 @@
-use mathlib.Core.Path.{◌≡◌, refl, sym, subst}
-use Prim.Native.Nat.{ℕ, ◌-◌, ◌≤◌}
+use mathlib.Core.Path.{◌≡◌}
+use Prim.Native.Nat.{◌-◌, ◌≤◌}
 use lib.ListN.{take}
 use Rattle.definition.specs.Basics.{is_member}
 use mathlib.Core.Bool.{false}
-use Rattle.shapes.proofs.Text.{member_more, member_hit}
-use borrow.Author.Rules.{rules}
-use native.Mathlib.Omega.{arith}
 use Rattle.shapes.proofs.contains.Given as goal
 
 abbrev pub invariant-loop-i : goal.invariant-loop-i

@@ -1,7 +1,6 @@
 use mathlib.Core.Path.{◌≡◌, sym, ap, ◌∙◌}
-use Prim.Native.Nat.{ℕ, ◌-◌, ◌*◌, ◌≤◌}
+use Prim.Native.Nat.{ℕ}
 use lib.ListN.{take}
-use mathlib.Core.Bool.{true}
 use Rattle.definition.specs.Effects.{elements_alike}
 use Rattle.shapes.proofs.Text.{alike_none, alike_more, alike_stop, next_at, text_same}
 use Rattle.shapes.proofs.Alike.{alike_none_inside}

@@ -1,12 +1,8 @@
-use mathlib.Core.Path.{◌≡◌, sym, ap, ◌∙◌}
-use Prim.Native.Nat.{ℕ, ◌-◌, ◌*◌, ◌≤◌}
+use mathlib.Core.Path.{◌≡◌}
+use Prim.Native.Nat.{◌-◌, ◌*◌, ◌≤◌}
 use lib.ListN.{take}
 use mathlib.Core.Bool.{true}
 use Rattle.definition.specs.Effects.{elements_alike}
-use Rattle.shapes.proofs.Text.{alike_none, alike_more, alike_stop, next_at, text_same}
-use Rattle.shapes.proofs.Alike.{alike_none_inside}
-use borrow.Author.Rules.{rules}
-use native.Mathlib.Omega.{arith}
 use Rattle.shapes.proofs.elements_alike.Given as goal
 
 abbrev pub invariant-loop-i : goal.invariant-loop-i

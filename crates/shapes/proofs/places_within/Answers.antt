@@ -1,5 +1,5 @@
 use mathlib.Core.Path.{◌≡◌, subst}
-use Prim.Native.Nat.{ℕ, ◌-◌, ◌≤◌}
+use Prim.Native.Nat.{ℕ}
 use lib.ListN.{length, take}
 use Rattle.definition.specs.Effects.{places_within}
 use Rattle.shapes.specs.Text.{Holds}

@@ -1,12 +1,7 @@
-use mathlib.Core.Path.{◌≡◌, subst}
-use Prim.Native.Nat.{ℕ, ◌-◌, ◌≤◌}
-use lib.ListN.{length, take}
+use Prim.Native.Nat.{◌-◌, ◌≤◌}
+use lib.ListN.{take}
 use Rattle.definition.specs.Effects.{places_within}
 use Rattle.shapes.specs.Text.{Holds}
-use Rattle.shapes.proofs.Text.{hold_same, hold_out, within_none, within_more, within_short}
-use lib.Seq.{length-take-le}
-use borrow.Author.Rules.{rules}
-use native.Mathlib.Omega.{arith}
 use Rattle.shapes.proofs.places_within.Given as goal
 
 abbrev pub invariant-loop-i : goal.invariant-loop-i

@@ -1,7 +1,4 @@
-use Prim.Native.Nat.{ℕ, ◌≤◌, ◌<◌, ◌-◌}
-use mathlib.Core.Path.{◌≡◌}
 use borrow.Author.Count.{below_none, below_more}
-use lib.ListN.{get_or}
 use Rattle.shapes.proofs.Joins.{places-first, places_count, places_differ, places_same}
 use borrow.Author.Rules.{rules}
 use native.Mathlib.Omega.{arith}

@@ -1,5 +1,4 @@
 use Rattle.shapes.proofs.Text.{sum_fits, sum_stops}
-use borrow.Author.Rules.{rules}
 use Rattle.shapes.proofs.saturating_add.Goals as goal
 
 pub returns-then-s-le4294967295 : goal.returns-then-s-le4294967295

@@ -1,6 +1,5 @@
 -- `sheets::check_sheets` meets its contract. Assumes nothing.
 use Rattle.sheets.proofs.Laws.{too_short, enough}
-use borrow.Author.Rules.{rules}
 use Rattle.sheets.proofs.check_sheets.Goals as goal
 
 pub returns-then-length-instructions : goal.returns-then-length-instructions

@@ -1,5 +1,4 @@
 use Rattle.stretch.proofs.Laws.{mark_blind_too, mark-height_only}
-use borrow.Author.Rules.{rules}
 use Rattle.stretch.proofs.mark.Goals as goal
 
 pub returns-then-blind : goal.returns-then-blind

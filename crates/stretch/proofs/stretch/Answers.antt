@@ -1,10 +1,6 @@
-use mathlib.Core.Path.{◌≡◌, sym, ◌∙◌}
-use Prim.Native.Nat.{ℕ, ◌+◌, ◌-◌, ◌≤◌}
-use lib.ListN.{length}
+use mathlib.Core.Path.{sym, ◌∙◌}
 use Rattle.answer.proofs.Laws.{passed_yes, passed_no}
-use Rattle.frame.specs.Model.{at, Long}
-use Rattle.stretch.specs.Stretch.{sheets_of}
-use Rattle.stretch.proofs.Laws.{Running, running_start, running_on, running_end, running_block, running_refused}
+use Rattle.stretch.proofs.Laws.{running_start, running_on, running_end, running_block, running_refused}
 use borrow.Author.Rules.{rules}
 use native.Mathlib.Omega.{arith}
 use Rattle.stretch.proofs.stretch.Goals as goal
@@ -23,7 +19,9 @@ returns-else-is_straight c = (
 )
 
 pub examine-e-requires : goal.examine-e-requires
-examine-e-requires c = record { of = c.requires.of; long = (
+examine-e-requires c = record {
+  of = c.requires.of;
+  long = (
     c.loop-ip.invariant.2,
     record {
       code_low = c.instr_at-i.ensures.code_low;
@@ -33,7 +31,8 @@ examine-e-requires c = record { of = c.requires.of; long = (
     },
     c.requires.count_in_bounds.5,
     c.loop-ip.invariant.3.low,
-  ) }
+  );
+}
 
 pub returns-in_default : goal.returns-in_default
 returns-in_default c = (

@@ -1,12 +1,9 @@
-use mathlib.Core.Path.{◌≡◌, sym, ◌∙◌}
-use Prim.Native.Nat.{ℕ, ◌+◌, ◌-◌, ◌≤◌}
+use mathlib.Core.Path.{◌≡◌}
+use Prim.Native.Nat.{◌-◌}
 use lib.ListN.{length}
-use Rattle.answer.proofs.Laws.{passed_yes, passed_no}
 use Rattle.frame.specs.Model.{at, Long}
 use Rattle.stretch.specs.Stretch.{sheets_of}
-use Rattle.stretch.proofs.Laws.{Running, running_start, running_on, running_end, running_block, running_refused}
-use borrow.Author.Rules.{rules}
-use native.Mathlib.Omega.{arith}
+use Rattle.stretch.proofs.Laws.{Running}
 use Rattle.stretch.proofs.stretch.Given as goal
 
 abbrev pub invariant-loop-ip : goal.invariant-loop-ip

@@ -1,7 +1,6 @@
 -- Assumes nothing.
 use Rattle.writer.proofs.Steps.{unused_constants, used_constants}
 use mathlib.Core.Path.{refl}
-use borrow.Author.Rules.{rules}
 use Rattle.writer.proofs.all_used.Goals as goal
 
 pub returns-then-word-constants : goal.returns-then-word-constants

@@ -1,9 +1,6 @@
 -- The tables from k on decide. Assumes nothing.
-use Prim.Native.Nat.{◌≤◌, ◌-◌, ◌+◌}
-use mathlib.Core.Path.{◌≡◌, sym, ◌∙◌}
-use Rattle.writer.specs.Say.{counts_fit}
-use Rattle.writer.proofs.Steps.{counts_left, counts_whole, counts_more, counts_over, counts_end}
-use borrow.Author.Rules.{rules}
+use mathlib.Core.Path.{sym, ◌∙◌}
+use Rattle.writer.proofs.Steps.{counts_whole, counts_more, counts_over, counts_end}
 use native.Mathlib.Omega.{arith}
 use Rattle.writer.proofs.counts_fit.Goals as goal
 

@@ -1,10 +1,8 @@
 -- The tables from k on decide. Assumes nothing.
-use Prim.Native.Nat.{◌≤◌, ◌-◌, ◌+◌}
-use mathlib.Core.Path.{◌≡◌, sym, ◌∙◌}
+use Prim.Native.Nat.{◌≤◌, ◌-◌}
+use mathlib.Core.Path.{◌≡◌}
 use Rattle.writer.specs.Say.{counts_fit}
-use Rattle.writer.proofs.Steps.{counts_left, counts_whole, counts_more, counts_over, counts_end}
-use borrow.Author.Rules.{rules}
-use native.Mathlib.Omega.{arith}
+use Rattle.writer.proofs.Steps.{counts_left}
 use Rattle.writer.proofs.counts_fit.Given as goal
 
 abbrev pub invariant-loop-k : goal.invariant-loop-k

@@ -3,7 +3,6 @@ use mathlib.Core.Path.{◌∙◌}
 use Rattle.bytecode.specs.Tables.{past-last}
 use Rattle.definition.specs.Basics.{choose}
 use Rattle.writer.specs.Say.{row_form}
-use borrow.Author.Rules.{rules}
 use Rattle.writer.proofs.form_of.Goals as goal
 
 pub returns-in-0 : goal.returns-in-0

@@ -1,6 +1,5 @@
 -- Assumes nothing.
 use Rattle.writer.proofs.Steps.{cap-header, other_headers, one_header}
-use borrow.Author.Rules.{rules}
 use native.Mathlib.Omega.{arith}
 use Rattle.writer.proofs.is_headed.Goals as goal
 

@@ -1,6 +1,5 @@
 -- Assumes nothing.
 use Rattle.writer.specs.Put.{byte_in, byte-over, byte_past}
-use borrow.Author.Rules.{rules}
 use Rattle.writer.proofs.put_byte.Goals as goal
 
 pub returns-then-at-ge-PAST : goal.returns-then-at-ge-PAST

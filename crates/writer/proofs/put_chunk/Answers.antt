@@ -1,7 +1,6 @@
 -- Assumes nothing.
 use Rattle.writer.specs.Put.{put_low}
 use Rattle.writer.proofs.Steps.{cap_chunks, chunk_put}
-use borrow.Author.Rules.{rules}
 use native.Mathlib.Omega.{arith}
 use Rattle.writer.proofs.put_chunk.Goals as goal
 

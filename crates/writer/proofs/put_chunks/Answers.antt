@@ -1,11 +1,9 @@
 -- What is put, and what is left from chunk k on. Assumes nothing.
-use Prim.Native.Nat.{◌≤◌, ◌-◌, ◌+◌, ◌*◌}
-use mathlib.Core.Path.{◌≡◌, refl, sym, ◌∙◌}
-use lib.ListN.{length}
+use mathlib.Core.Path.{refl, sym, ◌∙◌}
 use Rattle.bytecode.specs.Meaning.{count, count_low}
 use Rattle.writer.specs.Say.{chunks_said}
-use Rattle.writer.proofs.Putting.{Putting, putting_start, putting_low, putting_same, putting_more, putting_last, putting_lost}
-use Rattle.writer.proofs.Steps.{cap_chunks, cap_constants, cap_instructions, chunks_left, chunks_whole, chunks_more, chunks_lost, chunks_end, chunks_over}
+use Rattle.writer.proofs.Putting.{putting_start, putting_low, putting_same, putting_more, putting_last, putting_lost}
+use Rattle.writer.proofs.Steps.{cap_chunks, cap_constants, cap_instructions, chunks_whole, chunks_more, chunks_lost, chunks_end, chunks_over}
 use borrow.Author.Rules.{rules}
 use native.Mathlib.Omega.{arith}
 use Rattle.writer.proofs.put_chunks.Goals as goal

@@ -1,13 +1,11 @@
 -- What is put, and what is left from chunk k on. Assumes nothing.
-use Prim.Native.Nat.{◌≤◌, ◌-◌, ◌+◌, ◌*◌}
-use mathlib.Core.Path.{◌≡◌, refl, sym, ◌∙◌}
+use Prim.Native.Nat.{◌≤◌, ◌-◌, ◌*◌}
+use mathlib.Core.Path.{◌≡◌}
 use lib.ListN.{length}
-use Rattle.bytecode.specs.Meaning.{count, count_low}
+use Rattle.bytecode.specs.Meaning.{count}
 use Rattle.writer.specs.Say.{chunks_said}
-use Rattle.writer.proofs.Putting.{Putting, putting_start, putting_low, putting_same, putting_more, putting_last, putting_lost}
-use Rattle.writer.proofs.Steps.{cap_chunks, cap_constants, cap_instructions, chunks_left, chunks_whole, chunks_more, chunks_lost, chunks_end, chunks_over}
-use borrow.Author.Rules.{rules}
-use native.Mathlib.Omega.{arith}
+use Rattle.writer.proofs.Putting.{Putting}
+use Rattle.writer.proofs.Steps.{chunks_left}
 use Rattle.writer.proofs.put_chunks.Given as goal
 
 abbrev pub invariant-loop-k : goal.invariant-loop-k

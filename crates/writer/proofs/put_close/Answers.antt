@@ -1,6 +1,5 @@
 -- Assumes nothing.
 use Rattle.writer.proofs.Steps.{close_put}
-use borrow.Author.Rules.{rules}
 use native.Mathlib.Omega.{arith}
 use Rattle.writer.proofs.put_close.Goals as goal
 

@@ -5,7 +5,6 @@ use Rattle.writer.specs.Put.{put_same}
 use Rattle.writer.specs.Say.{entry_said}
 use Rattle.bytecode.specs.Tables.{cap}
 use Rattle.writer.proofs.Steps.{cap_instructions, entry_line}
-use borrow.Author.Rules.{rules}
 use native.Mathlib.Omega.{arith}
 use Rattle.writer.proofs.put_entry.Goals as goal
 

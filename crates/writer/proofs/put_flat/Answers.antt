@@ -2,7 +2,6 @@
 use Rattle.definition.specs.Format.{bytes}
 use Rattle.writer.specs.Put.{put_low}
 use Rattle.writer.proofs.Laws.{flat-put}
-use borrow.Author.Rules.{rules}
 use Rattle.writer.proofs.put_flat.Goals as goal
 
 pub put_text-requires : goal.put_text-requires

@@ -1,9 +1,9 @@
 -- What is put, and what is left to say from code j and word i on. Assumes nothing.
-use Prim.Native.Nat.{ℕ, ◌≤◌, ◌+◌, ◌-◌, ◌*◌}
-use mathlib.Core.Path.{◌≡◌, sym, ap}
-use lib.ListN.{length, drop, get_or}
+use Prim.Native.Nat.{ℕ, ◌+◌, ◌*◌}
+use mathlib.Core.Path.{sym, ap}
+use lib.ListN.{drop}
 use Rattle.writer.specs.Put.{put_same}
-use Rattle.writer.proofs.Putting.{Putting, putting_start, putting_low, putting_same, putting_more, putting_done, putting_lost}
+use Rattle.writer.proofs.Putting.{putting_start, putting_low, putting_same, putting_more, putting_done, putting_lost}
 use Rattle.writer.proofs.Formats.{left, left-whole, left-past, left_end, left_byte, left_value, left_none, left_over, after_low}
 use borrow.Author.Rules.{rules}
 use native.Mathlib.Omega.{arith}

@@ -1,12 +1,9 @@
 -- What is put, and what is left to say from code j and word i on. Assumes nothing.
-use Prim.Native.Nat.{ℕ, ◌≤◌, ◌+◌, ◌-◌, ◌*◌}
-use mathlib.Core.Path.{◌≡◌, sym, ap}
-use lib.ListN.{length, drop, get_or}
-use Rattle.writer.specs.Put.{put_same}
-use Rattle.writer.proofs.Putting.{Putting, putting_start, putting_low, putting_same, putting_more, putting_done, putting_lost}
-use Rattle.writer.proofs.Formats.{left, left-whole, left-past, left_end, left_byte, left_value, left_none, left_over, after_low}
-use borrow.Author.Rules.{rules}
-use native.Mathlib.Omega.{arith}
+use Prim.Native.Nat.{◌≤◌, ◌+◌, ◌-◌, ◌*◌}
+use mathlib.Core.Path.{◌≡◌}
+use lib.ListN.{length, drop}
+use Rattle.writer.proofs.Putting.{Putting}
+use Rattle.writer.proofs.Formats.{left}
 use Rattle.writer.proofs.put_form.Given as goal
 
 abbrev pub invariant-loop-j : goal.invariant-loop-j

@@ -2,7 +2,6 @@
 use mathlib.Core.Path.{sym, ◌∙◌}
 use Rattle.writer.specs.Put.{put_low, put_same, put_missing}
 use Rattle.writer.proofs.Steps.{cap-header, module_put, no_header, no_counts}
-use borrow.Author.Rules.{rules}
 use native.Mathlib.Omega.{arith}
 use Rattle.writer.proofs.put_module.Goals as goal
 

@@ -1,13 +1,10 @@
 -- The first j letters are put. Assumes nothing.
-use Prim.Native.Nat.{ℕ, ◌≤◌, ◌-◌}
-use mathlib.Core.Path.{◌≡◌, ap}
+use Prim.Native.Nat.{◌≤◌, ◌-◌}
+use mathlib.Core.Path.{◌≡◌}
 use mathlib.Core.Option.{some}
-use mathlib.Core.List.{[], ◌∷◌}
 use lib.ListN.{length, take}
 use Rattle.bytecode.specs.Names.{name_at}
-use Rattle.writer.specs.Put.{Put, put_same, copy_none, copy_more, copy_done}
-use borrow.Author.Rules.{rules}
-use native.Mathlib.Omega.{arith}
+use Rattle.writer.specs.Put.{Put}
 use Rattle.writer.proofs.put_name.Given as goal
 
 abbrev pub invariant-loop-j : goal.invariant-loop-j

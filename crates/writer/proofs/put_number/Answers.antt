@@ -1,7 +1,6 @@
 -- Assumes nothing.
 use mathlib.Core.Path.{sym, ◌∙◌}
 use Rattle.writer.proofs.Laws.{number_in, number_out}
-use borrow.Author.Rules.{rules}
 use Rattle.writer.proofs.put_number.Goals as goal
 
 pub returns-then-admits : goal.returns-then-admits

@@ -1,7 +1,7 @@
 -- Assumes nothing.
 use Prim.Native.Nat.{◌+◌}
 use Rattle.definition.specs.Format.{bytes}
-use Rattle.bytecode.specs.Tables.{row_at, stride}
+use Rattle.bytecode.specs.Tables.{row_at}
 use Rattle.writer.specs.Put.{put_low, put_same, put_missing}
 use Rattle.writer.proofs.Steps.{cap_instructions, part_of, part_length, op_put, op_missing, stride_instructions}
 use borrow.Author.Rules.{rules}

@@ -1,10 +1,7 @@
 -- What is put, and what is left from row i on. Assumes nothing.
-use Prim.Native.Nat.{◌≤◌, ◌-◌, ◌+◌}
-use mathlib.Core.Path.{◌≡◌}
-use lib.ListN.{length}
 use Rattle.writer.specs.Say.{rows_said}
-use Rattle.writer.proofs.Putting.{Putting, putting_start, putting_low, putting_same, putting_more, putting_done}
-use Rattle.writer.proofs.Steps.{rows_left, rows_whole, rows_more, rows_end, cap_most}
+use Rattle.writer.proofs.Putting.{putting_start, putting_low, putting_same, putting_more, putting_done}
+use Rattle.writer.proofs.Steps.{rows_whole, rows_more, rows_end, cap_most}
 use borrow.Author.Rules.{rules}
 use native.Mathlib.Omega.{arith}
 use Rattle.writer.proofs.put_rows.Goals as goal

@@ -1,12 +1,10 @@
 -- What is put, and what is left from row i on. Assumes nothing.
-use Prim.Native.Nat.{◌≤◌, ◌-◌, ◌+◌}
+use Prim.Native.Nat.{◌≤◌, ◌-◌}
 use mathlib.Core.Path.{◌≡◌}
 use lib.ListN.{length}
 use Rattle.writer.specs.Say.{rows_said}
-use Rattle.writer.proofs.Putting.{Putting, putting_start, putting_low, putting_same, putting_more, putting_done}
-use Rattle.writer.proofs.Steps.{rows_left, rows_whole, rows_more, rows_end, cap_most}
-use borrow.Author.Rules.{rules}
-use native.Mathlib.Omega.{arith}
+use Rattle.writer.proofs.Putting.{Putting}
+use Rattle.writer.proofs.Steps.{rows_left}
 use Rattle.writer.proofs.put_rows.Given as goal
 
 abbrev pub invariant-loop-i : goal.invariant-loop-i

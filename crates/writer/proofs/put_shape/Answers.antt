@@ -3,7 +3,6 @@ use Rattle.definition.specs.Format.{bytes}
 use Rattle.writer.specs.Put.{put_same, put_missing}
 use Rattle.writer.proofs.Laws.{top_said, scalar_said, wide_scalar, flat_said, wide_flat, other_said, size_in, size_over}
 use mathlib.Core.Path.{sym, ◌∙◌}
-use borrow.Author.Rules.{rules}
 use native.Mathlib.Omega.{arith}
 use Rattle.writer.proofs.put_shape.Goals as goal
 

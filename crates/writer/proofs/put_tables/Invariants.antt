@@ -1,13 +1,10 @@
 -- What is put, and what is left from table k on. Assumes nothing.
-use Prim.Native.Nat.{◌≤◌, ◌-◌, ◌+◌}
+use Prim.Native.Nat.{◌≤◌, ◌-◌}
 use mathlib.Core.Path.{◌≡◌}
 use lib.ListN.{length}
-use Rattle.bytecode.specs.Meaning.{count_low}
 use Rattle.writer.specs.Say.{tables_said}
-use Rattle.writer.proofs.Putting.{Putting, putting_start, putting_low, putting_same, putting_more, putting_done}
-use Rattle.writer.proofs.Steps.{tables_left, tables_whole, tables_more, tables_end}
-use borrow.Author.Rules.{rules}
-use native.Mathlib.Omega.{arith}
+use Rattle.writer.proofs.Putting.{Putting}
+use Rattle.writer.proofs.Steps.{tables_left}
 use Rattle.writer.proofs.put_tables.Given as goal
 
 abbrev pub invariant-loop-k : goal.invariant-loop-k

@@ -1,9 +1,5 @@
 -- The first i bytes are put. Assumes nothing.
-use Prim.Native.Nat.{◌≤◌, ◌-◌}
-use mathlib.Core.Option.{some}
-use mathlib.Core.Path.{◌≡◌}
-use lib.ListN.{length, take}
-use Rattle.writer.specs.Put.{Put, copy_none, copy_more, copy_done}
+use Rattle.writer.specs.Put.{copy_none, copy_more, copy_done}
 use borrow.Author.Rules.{rules}
 use native.Mathlib.Omega.{arith}
 use Rattle.writer.proofs.put_text.Goals as goal

@@ -1,7 +1,6 @@
 -- Assumes nothing.
 use Rattle.writer.specs.Put.{put_same}
 use Rattle.writer.proofs.Laws.{value_shape, value_shapes, value_number}
-use borrow.Author.Rules.{rules}
 use Rattle.writer.proofs.put_value.Goals as goal
 
 pub returns-then-c-eq-SHAPE : goal.returns-then-c-eq-SHAPE

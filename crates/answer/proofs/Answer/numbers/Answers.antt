@@ -3,7 +3,6 @@ use mathlib.Core.Path.{refl}
 use Rattle.answer.specs.Answer.{answer_of}
 use Rattle.answer.specs.Numbers.{values_of}
 use Rattle.answer.proofs.Laws.{told}
-use borrow.Author.Rules.{rules}
 use Rattle.answer.proofs.Answer.numbers.Goals as goal
 
 pub returns-in-Accepted : goal.returns-in-Accepted

@@ -2,7 +2,6 @@
 use mathlib.Core.Path.{refl}
 use Rattle.answer.specs.Answer.{fields, with_chunk}
 use Rattle.answer.proofs.Laws.{told_in}
-use borrow.Author.Rules.{rules}
 use Rattle.answer.proofs.Refusal.numbers.Goals as goal
 
 pub returns-in-CannotFollow : goal.returns-in-CannotFollow

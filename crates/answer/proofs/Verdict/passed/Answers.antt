@@ -1,6 +1,5 @@
 -- `answer::Verdict::passed` meets its contract. Assumes nothing.
 use Rattle.answer.proofs.Laws.{passed_yes, passed_no}
-use borrow.Author.Rules.{rules}
 use Rattle.answer.proofs.Verdict.passed.Goals as goal
 
 pub returns-in-Passed : goal.returns-in-Passed

@@ -3,7 +3,6 @@ use mathlib.Core.Path.{refl}
 use Rattle.answer.specs.Answer.{written_of}
 use Rattle.answer.specs.Numbers.{values_of_written}
 use Rattle.answer.proofs.Laws.{told}
-use borrow.Author.Rules.{rules}
 use Rattle.answer.proofs.Written.numbers.Goals as goal
 
 pub returns-in-Length : goal.returns-in-Length

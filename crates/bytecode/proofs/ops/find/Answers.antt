@@ -1,5 +1,5 @@
-use mathlib.Core.Path.{◌∙◌, refl}
-use Rattle.bytecode.specs.Names.{row_number, Packs}
+use mathlib.Core.Path.{refl}
+use Rattle.bytecode.specs.Names.{row_number}
 use Rattle.bytecode.proofs.Names.{long_none, all_of}
 use native.Mathlib.Omega.{arith}
 use borrow.Author.Rules.{rules}

@@ -1,5 +1,4 @@
 use Rattle.bytecode.proofs.Table.{largest_held}
-use borrow.Author.Rules.{rules}
 use Rattle.bytecode.proofs.ops.maximum.Goals as goal
 
 pub returns : goal.returns

@@ -1,6 +1,5 @@
 use native.Mathlib.Omega.{arith}
 use Rattle.bytecode.proofs.Names.{name_short, name_letter}
-use borrow.Author.Rules.{rules}
 use Rattle.bytecode.proofs.ops.name_letter.Goals as goal
 
 pub name_word-word-requires : goal.name_word-word-requires

@@ -1,5 +1,4 @@
 use Rattle.bytecode.proofs.Table.{word_held}
-use borrow.Author.Rules.{rules}
 use Rattle.bytecode.proofs.ops.name_word.Goals as goal
 
 pub returns : goal.returns

@@ -1,8 +1,6 @@
-use mathlib.Core.Path.{◌≡◌, ◌∙◌, sym, subst, refl}
-use Prim.Native.Nat.{ℕ, ◌+◌, ◌-◌, ◌≤◌, ◌<◌}
-use lib.ListN.{length, get_or}
-use Rattle.bytecode.specs.Names.{little}
-use Rattle.bytecode.proofs.Names.{all_of, rest_of, rest_none, rest_start, rest_more, rest_all, rest_small}
+use mathlib.Core.Path.{◌∙◌, refl}
+use Prim.Native.Nat.{◌-◌}
+use Rattle.bytecode.proofs.Names.{all_of, rest_none, rest_start, rest_more, rest_all, rest_small}
 use borrow.Author.Rules.{rules}
 use native.Mathlib.Omega.{arith}
 use Rattle.bytecode.proofs.ops.pack.Goals as goal

@@ -1,10 +1,8 @@
-use mathlib.Core.Path.{◌≡◌, ◌∙◌, sym, subst, refl}
-use Prim.Native.Nat.{ℕ, ◌+◌, ◌-◌, ◌≤◌, ◌<◌}
-use lib.ListN.{length, get_or}
+use mathlib.Core.Path.{◌≡◌}
+use Prim.Native.Nat.{◌+◌, ◌≤◌}
+use lib.ListN.{length}
 use Rattle.bytecode.specs.Names.{little}
-use Rattle.bytecode.proofs.Names.{all_of, rest_of, rest_none, rest_start, rest_more, rest_all, rest_small}
-use borrow.Author.Rules.{rules}
-use native.Mathlib.Omega.{arith}
+use Rattle.bytecode.proofs.Names.{rest_of}
 use Rattle.bytecode.proofs.ops.pack.Given as goal
 
 abbrev pub invariant-loop-i : goal.invariant-loop-i

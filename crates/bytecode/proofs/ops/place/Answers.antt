@@ -1,7 +1,6 @@
 -- `bytecode::ops::place` meets its contract. Assumes nothing.
 use mathlib.Core.Path.{refl}
 use Rattle.bytecode.specs.Names.{place_of}
-use borrow.Author.Rules.{rules}
 use Rattle.bytecode.proofs.ops.place.Goals as goal
 
 pub returns : goal.returns

@@ -4,7 +4,6 @@ use Prim.Native.Nat.{ℕ}
 use Rattle.definition.specs.Ops.{ops, row, make_at}
 use Rattle.definition.specs.Effects.{effect}
 use Rattle.bytecode.specs.Names.{plain_effect, effect_of, effect_at, plain_need}
-use borrow.Author.Rules.{rules}
 use Rattle.bytecode.proofs.ops.plain_need.Goals as goal
 
 pub returns : goal.returns

@@ -9,7 +9,6 @@ use borrow.Author.Rules.{sfits_of}
 use Rattle.definition.specs.Ops.{ops, row, make_at}
 use Rattle.definition.specs.Effects.{effect}
 use Rattle.bytecode.specs.Names.{plain_effect, effect_of, effect_at, plain_net}
-use borrow.Author.Rules.{rules}
 use Rattle.bytecode.proofs.ops.plain_net.Goals as goal
 
 pub returns : goal.returns

@@ -1,5 +1,4 @@
 use Rattle.bytecode.proofs.Table.{place_held}
-use borrow.Author.Rules.{rules}
 use Rattle.bytecode.proofs.ops.row_at.Goals as goal
 
 pub returns : goal.returns

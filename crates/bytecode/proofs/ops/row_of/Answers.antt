@@ -2,7 +2,6 @@ use mathlib.Core.Path.{sym, ◌∙◌}
 use native.Mathlib.Omega.{arith}
 use Rattle.bytecode.specs.Names.{row_number}
 use Rattle.bytecode.proofs.Names.{place_low, placed_low, placed_found, placed_none, placed_only}
-use borrow.Author.Rules.{rules}
 use Rattle.bytecode.proofs.ops.row_of.Goals as goal
 
 pub row_at-row-requires : goal.row_at-row-requires

@@ -4,7 +4,6 @@ use Rattle.shapes.specs.Tabulated.{down}
 use Rattle.shapes.specs.Cover.{covers_all}
 use Rattle.frame.specs.Model.{value_at, stack_of, locals_of}
 use Rattle.frame.proofs.Joins.{covers_height, covers_both}
-use borrow.Author.Rules.{rules}
 use Rattle.frame.proofs.State.covers.Goals as goal
 
 pub returns-then-h-other : goal.returns-then-h-other

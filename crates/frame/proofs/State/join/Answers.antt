@@ -1,8 +1,7 @@
-use mathlib.Core.Path.{◌≡◌, refl, sym, subst}
+use mathlib.Core.Path.{◌≡◌, refl, subst}
 use Prim.Native.Nat.{ℕ}
 use Rattle.definition.specs.Walk.{join_states}
 use Rattle.frame.specs.Model.{at, state_of}
-use borrow.Author.Rules.{rules}
 use Rattle.frame.proofs.State.join.Goals as goal
 
 pub returns : goal.returns

@@ -1,5 +1,4 @@
 use Rattle.shapes.proofs.Text.{hold_same, kept_not_below, kept_not_above, kept}
-use borrow.Author.Rules.{rules}
 use Rattle.shapes.proofs.Places.add_within.Goals as goal
 
 pub returns-then-o-at : goal.returns-then-o-at

@@ -1,7 +1,6 @@
 use borrow.Enum.Refused.{opened}
 use mathlib.Core.Path.{◌∙◌}
 use Rattle.shapes.proofs.Joins.{plain_unknown, plain_covers}
-use borrow.Author.Rules.{rules}
 use Rattle.shapes.proofs.Shape.covers.Goals as goal
 
 pub returns-in-Unknown : goal.returns-in-Unknown

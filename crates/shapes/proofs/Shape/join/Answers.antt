@@ -1,7 +1,6 @@
 use mathlib.Core.Path.{sym, ◌∙◌}
 use Rattle.shapes.specs.Model.{shape_of}
 use Rattle.shapes.proofs.Joins.{plain_same, plain_apart}
-use borrow.Author.Rules.{rules}
 use Rattle.shapes.proofs.Shape.join.Goals as goal
 
 pub returns-then-same : goal.returns-then-same

@@ -2,7 +2,6 @@ use mathlib.Core.Path.{◌∙◌}
 use Rattle.value_layout.proofs.Laws.{width_is}
 use Rattle.shapes.specs.Text.{packed_of}
 use Rattle.shapes.proofs.Text.{bytes_unknown, bytes_scalar, bytes_composite}
-use borrow.Author.Rules.{rules}
 use Rattle.shapes.proofs.Shape.packed_size.Goals as goal
 
 pub returns-in-Unknown : goal.returns-in-Unknown

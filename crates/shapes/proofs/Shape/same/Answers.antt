@@ -3,7 +3,6 @@ use mathlib.Core.Bool.{and-true}
 use borrow.Author.Tests.{eq-eqb, ne_eqb}
 use Rattle.definition.specs.Shapes.{same_shape, same_text}
 use Rattle.shapes.specs.Model.{shape_of}
-use borrow.Author.Rules.{rules}
 use Rattle.shapes.proofs.Shape.same.Goals as goal
 
 pub returns-in-Unknown-other : goal.returns-in-Unknown-other

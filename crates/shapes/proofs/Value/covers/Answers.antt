@@ -1,7 +1,6 @@
 use borrow.Enum.Refused.{opened}
 use mathlib.Core.Path.{sym, ◌∙◌}
 use Rattle.shapes.proofs.Joins.{cover_simple, cover_open, cover_known, cover_apart}
-use borrow.Author.Rules.{rules}
 use Rattle.shapes.proofs.Value.covers.Goals as goal
 
 pub returns-in_default : goal.returns-in_default

@@ -1,7 +1,6 @@
 use borrow.Enum.Refused.{opened}
 use mathlib.Core.Path.{sym, ◌∙◌}
 use Rattle.shapes.proofs.Joins.{join_simple, join_kept, join_opened}
-use borrow.Author.Rules.{rules}
 use Rattle.shapes.proofs.Value.join.Goals as goal
 
 pub returns-in_default : goal.returns-in_default

@@ -1,7 +1,6 @@
 use borrow.Enum.Refused.{opened}
 use Rattle.shapes.specs.Model.{places_of}
 use Rattle.shapes.proofs.Text.{nested_other, nested_open, nested_known}
-use borrow.Author.Rules.{rules}
 use Rattle.shapes.proofs.Value.nested_text_layout.Goals as goal
 
 pub returns-in_default : goal.returns-in_default

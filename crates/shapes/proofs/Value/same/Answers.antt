@@ -1,7 +1,6 @@
 use borrow.Enum.Refused.{opened}
 use mathlib.Core.Path.{sym, ◌∙◌}
 use Rattle.shapes.proofs.Joins.{same-apart, same_simple, same_composite}
-use borrow.Author.Rules.{rules}
 use Rattle.shapes.proofs.Value.same.Goals as goal
 
 pub returns-in_default : goal.returns-in_default

@@ -2,7 +2,6 @@ use Rattle.definition.specs.Shapes.{scalar_widths}
 use mathlib.Core.Path.{ap}
 use Prim.Native.Nat.{ℕ, ◌*◌}
 use Rattle.value_layout.proofs.Laws.{no_width}
-use borrow.Author.Rules.{rules}
 use Rattle.value_layout.proofs.Widths.size_in_bytes.Goals as goal
 
 pub returns-in-0 : goal.returns-in-0
