@@ -5,17 +5,18 @@
 ghost use Rattle.std.specs.Prelude.{◌≡◌, ◌≤◌, ◌<◌};
 
 use frame::State;
-use libc::STDOUT_FILENO;
 use shapes::{Places, UNKNOWN_PLACES, Value};
+use std::io;
+use std::io::Write;
 use value_layout::{composite, scalar};
 
-fn print(text: &[u8]) {
-    io::write_all(STDOUT_FILENO, text);
+fn print(rt: &impl Print, text: &[u8]) -> io::Result<()> {
+    io::writer(rt).write_all(text)
 }
 
-fn print_number(text: &[u8], n: usize) {
-    print(text);
-    io::print_decimal(STDOUT_FILENO, n as u64);
+fn print_number(rt: &impl Print, text: &[u8], n: usize) -> io::Result<()> {
+    print(rt, text)?;
+    print!(rt; "{n}")
 }
 
 // ---- states
@@ -228,30 +229,36 @@ fn covers_agree(a: State, b: State, height: usize, locals: usize) -> bool
 
 // ---- the cases
 
-fn show(seed: u64, way: u64, height: usize, locals: usize)
+fn show(
+    rt: &impl Print,
+    seed: u64,
+    way: u64,
+    height: usize,
+    locals: usize,
+) -> io::Result<()>
     requires { (height ≤ 64) × (locals ≤ 32) }
 {
     let a = state_of(seed, way, false, height);
     let b = state_of(seed, way, true, height);
     let joined = join_lent(a, b, height, locals);
-    print_number(b"operands ", height);
-    print_number(b" locals ", locals);
-    print_number(b": changed ", count(IS_CHANGED, a, b, joined, 0, height));
-    print_number(b" and ", count(IS_CHANGED, a, b, joined, 64, 64 + locals));
+    print_number(rt, b"operands ", height)?;
+    print_number(rt, b" locals ", locals)?;
+    print_number(rt, b": changed ", count(IS_CHANGED, a, b, joined, 0, height))?;
+    print_number(rt, b" and ", count(IS_CHANGED, a, b, joined, 64, 64 + locals))?;
     if a.covers(b, locals) {
-        print(b", covered");
+        print(rt, b", covered")?;
     } else {
-        print(b", not covered");
+        print(rt, b", not covered")?;
     }
     if joins_agree(a, b, height, locals) {
-        print(b", joins agree");
+        print(rt, b", joins agree")?;
     } else {
-        print(b", JOINS DIFFER");
+        print(rt, b", JOINS DIFFER")?;
     }
     if covers_agree(a, b, height, locals) {
-        print(b", covers agree\n");
+        print(rt, b", covers agree\n")
     } else {
-        print(b", COVERS DIFFER\n");
+        print(rt, b", COVERS DIFFER\n")
     }
 }
 
@@ -277,26 +284,25 @@ fn locals_of(n: u64) -> usize
     }
 }
 
-fn show_pairs() {
-    let mut n: u64 = 0;
-    while n < 64 {
-        show(n + 1, n / 16, height_of(n), locals_of(n));
-        n += 1;
+fn show_pairs(rt: &impl Print) -> io::Result<()> {
+    for n in 0..64u64 {
+        show(rt, n + 1, n / 16, height_of(n), locals_of(n))?;
     }
+    Ok(())
 }
 
 // States of different heights never cover each other.
-fn show_heights() {
+fn show_heights(rt: &impl Print) -> io::Result<()> {
     let low = state_of(1, NOWHERE, false, 2);
     let high = state_of(1, NOWHERE, false, 3);
     if low.covers(high, 0) {
-        print(b"operands 2 and 3: COVERED\n");
+        print(rt, b"operands 2 and 3: COVERED\n")
     } else {
-        print(b"operands 2 and 3: not covered\n");
+        print(rt, b"operands 2 and 3: not covered\n")
     }
 }
 
-fn main() {
-    show_pairs();
-    show_heights();
+fn main(rt: HostRuntime) -> io::Result<()> {
+    show_pairs(&rt)?;
+    show_heights(&rt)
 }

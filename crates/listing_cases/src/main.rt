@@ -2,47 +2,47 @@
 // `*COUNT TEXT` stands for so many lines TEXT, and a line that ends with `\` for its text without an LF; any other line stands for itself.
 #![tactic(auto)]
 
-ghost use Rattle.std.specs.Prelude.{◌≡◌, ◌+◌, ◌-◌, ◌≤◌, ◌<◌, length};
+ghost use Rattle.std.specs.Prelude.{◌≡◌, ◌+◌, ◌-◌, ◌≤◌, ◌<◌, IfOk, length};
 
-use libc::STDOUT_FILENO;
 use listing::Reading;
+use std::io;
+use std::io::{Read, Write};
 
-fn print(text: &[u8]) {
-    io::write_all(STDOUT_FILENO, text);
+fn print(rt: &impl Print, text: &[u8]) -> io::Result<()> {
+    io::writer(rt).write_all(text)
 }
 
-fn print_number(n: u64) {
-    print(b" ");
-    io::print_decimal(STDOUT_FILENO, n);
+fn print_number(rt: &impl Print, n: u64) -> io::Result<()> {
+    print!(rt; " {n}")
 }
 
-fn print_count(t: &[u64; 22232], k: usize)
+fn print_count(rt: &impl Print, t: &[u64; 22232], k: usize) -> io::Result<()>
     requires { k < 10 }
 {
     let n = bytecode::count(t, k);
-    print_number(n as u64);
+    print_number(rt, n as u64)
 }
 
 // What reading the listing gives: the counts of its chunks and instructions, or the refusal.
-fn report(s: &[u8]) {
+fn report(rt: &impl Print, s: &[u8]) -> io::Result<()> {
     let mut tables = [0u64; 22232];
     let r = listing::read(s, &mut tables);
     match r {
         Reading::Module => {
-            print(b"read");
-            print_count(&tables, 7);
-            print_count(&tables, 9);
+            print(rt, b"read")?;
+            print_count(rt, &tables, 7)?;
+            print_count(rt, &tables, 9)?;
         }
         Reading::Line(n) => {
-            print(b"refused 1 0");
-            print_number(n);
+            print(rt, b"refused 1 0")?;
+            print_number(rt, n)?;
         }
         Reading::Limit(k) => {
-            print(b"refused 2 0 0");
-            print_number(k);
+            print(rt, b"refused 2 0 0")?;
+            print_number(rt, k)?;
         }
     }
-    print(b"\n");
+    print(rt, b"\n")
 }
 
 fn line_end(s: &[u8], at: usize) -> usize
@@ -176,13 +176,13 @@ fn after_line(s: &[u8], at: usize, e: usize) -> usize
 }
 
 // The listing whose name stands at `at`: its name and what reading it gives. Answers where the next one begins.
-fn one(input: &[u8], at: usize, text: &mut [u8]) -> usize
+fn one(rt: &impl Print, input: &[u8], at: usize, text: &mut [u8]) -> io::Result<usize>
     requires { at < length input.now }
-    ensures { (at < result) × (result ≤ length input.now) }
+    ensures { IfOk result (λ next. (at < next) × (next ≤ length input.now)) }
 {
     let name_end = line_end(input, at);
-    print(&input[at..name_end]);
-    print(b": ");
+    print(rt, &input[at..name_end])?;
+    print(rt, b": ")?;
     let mut len = 0;
     let mut i = after_line(input, at, name_end);
     while i < input.len() {
@@ -193,20 +193,21 @@ fn one(input: &[u8], at: usize, text: &mut [u8]) -> usize
         len = expand(text, len, &input[i..e]);
         i = after_line(input, i, e);
     }
-    report(&text[..len]);
-    i
+    report(rt, &text[..len])?;
+    Ok(i)
 }
 
-fn run(input: &[u8], text: &mut [u8]) {
+fn run(rt: &impl Print, input: &[u8], text: &mut [u8]) -> io::Result<()> {
     let mut at = 0;
     while at < input.len() {
-        at = one(input, at, text);
+        at = one(rt, input, at, text)?;
     }
+    Ok(())
 }
 
-fn main() {
-    let mut input = io::large_buffer();
-    let n = io::read_full(0, &mut input);
+fn main(rt: HostRuntime) -> io::Result<()> {
+    let mut input = Vec::new(rt.alloc());
+    rt.stdin().take(65536).read_to_end(&mut input)?;
     let mut text = [0u8; 70000];
-    run(&input[..n], &mut text);
+    run(&rt, input.as_slice(), &mut text)
 }
