@@ -2,13 +2,13 @@
 // answers are from, is said in oracle/README.md, "The fixed list".
 #![tactic(auto)]
 
-ghost use Rattle.std.specs.Prelude.{◌≤◌, ◌<◌, length};
-ghost use Rattle.io.specs.Counts.{IsPrefixLen};
+ghost use Rattle.std.specs.Prelude.{◌≤◌, ◌<◌, IfOk, length};
 
-use libc::{STDIN_FILENO, STDOUT_FILENO};
+use std::io;
+use std::io::{BufReader, Read, Write};
 
-fn print(text: &[u8]) {
-    io::write_all(STDOUT_FILENO, text);
+fn print(rt: &impl Print, text: &[u8]) -> io::Result<()> {
+    io::writer(rt).write_all(text)
 }
 
 fn wide(x: u8) -> u64 {
@@ -24,7 +24,7 @@ fn both(a: bool, b: bool) -> bool {
 
 // n, or the length of s where that is less.
 fn within(n: usize, s: &[u8]) -> usize
-    ensures { IsPrefixLen result s.now }
+    ensures { result ≤ length s.now }
 {
     if n < s.len() {
         return n;
@@ -34,34 +34,49 @@ fn within(n: usize, s: &[u8]) -> usize
 
 // ---- lines of the list
 
-// The next byte of standard input, or 256 at its end.
-fn next_byte() -> u64 {
-    let mut one = [0u8; 1];
-    let n = io::read_full(STDIN_FILENO, &mut one);
-    if n == 0 {
-        return 256;
+// Reads until `buf` is full or the input ends, and answers how many bytes were read.
+fn read_full(input: &mut impl Read, buf: &mut [u8]) -> io::Result<usize>
+    ensures { IfOk result (λ n. n ≤ length buf.new) }
+{
+    let mut n = 0;
+    while n < buf.len() {
+        let more = input.read(&mut buf[n..])?;
+        if more == 0 {
+            return Ok(n);
+        }
+        n += more;
     }
-    wide(one[0])
+    Ok(n)
+}
+
+// The next byte of the input, or 256 at its end.
+fn next_byte(input: &mut impl Read) -> io::Result<u64> {
+    let mut one = [0u8; 1];
+    let n = read_full(input, &mut one)?;
+    if n == 0 {
+        return Ok(256);
+    }
+    Ok(wide(one[0]))
 }
 
 // Reads a line, as much of it as has room, and answers its length without the LF.
-fn read_line(line: &mut [u8]) -> usize
-    ensures { IsPrefixLen result line.new }
+fn read_line(input: &mut impl Read, line: &mut [u8]) -> io::Result<usize>
+    ensures { IfOk result (λ n. n ≤ length line.new) }
 {
     let n = line.len();
     let mut i = 0;
     while i < n {
-        let b = next_byte();
+        let b = next_byte(input)?;
         if b == 10 {
-            return i;
+            return Ok(i);
         }
         if 255 < b {
-            return i;
+            return Ok(i);
         }
         line[i] = b as u8;
         i += 1;
     }
-    i
+    Ok(i)
 }
 
 fn digit(b: u8) -> u64
@@ -227,39 +242,51 @@ fn same_sheet(line: &[u8], count: usize, sheet: &[u8]) -> bool {
 }
 
 // Whether a sheet is as the next line of the list says; where there is no instruction there is no line.
-fn is_next_sheet(line: &mut [u8], count: usize, sheet: &[u8]) -> bool {
+fn is_next_sheet(
+    input: &mut impl Read,
+    line: &mut [u8],
+    count: usize,
+    sheet: &[u8],
+) -> io::Result<bool> {
     if count == 0 {
-        return is_zero(sheet, 0);
+        return Ok(is_zero(sheet, 0));
     }
-    let n = read_line(line);
-    same_sheet(&line[..n], count, sheet)
+    let n = read_line(input, line)?;
+    Ok(same_sheet(&line[..n], count, sheet))
 }
 
 // Whether both sheets are as an answer wants them: as the list says for an acceptance, else 0.
-fn are_right(line: &mut [u8], words: [u64; 8], heights: &[u8], blinds: &[u8]) -> bool {
+fn are_right(
+    input: &mut impl Read,
+    line: &mut [u8],
+    words: [u64; 8],
+    heights: &[u8],
+    blinds: &[u8],
+) -> io::Result<bool> {
     if words[0] != 0 {
-        return both(is_zero(heights, 0), is_zero(blinds, 0));
+        return Ok(both(is_zero(heights, 0), is_zero(blinds, 0)));
     }
     let count = words[2] as usize;
-    let heights_right = is_next_sheet(line, count, heights);
-    let blinds_right = is_next_sheet(line, count, blinds);
-    both(heights_right, blinds_right)
+    let heights_right = is_next_sheet(input, line, count, heights)?;
+    let blinds_right = is_next_sheet(input, line, count, blinds)?;
+    Ok(both(heights_right, blinds_right))
 }
 
-fn report(number: u64, text: &[u8]) {
-    print(b"call ");
-    io::print_decimal(STDOUT_FILENO, number);
-    print(text);
+fn report(rt: &impl Print, number: u64, text: &[u8]) -> io::Result<()> {
+    print!(rt; "call {number}")?;
+    print(rt, text)
 }
 
 // The check of a listing, over sheets full of what is not 0. Says what differs from the list.
 fn compare(
+    rt: &impl Print,
+    input: &mut impl Read,
     head: Head,
     listing: &[u8],
     line: &mut [u8],
     heights: &mut [u8],
     blinds: &mut [u8],
-) -> bool {
+) -> io::Result<bool> {
     fill(heights, 170);
     fill(blinds, 85);
     let a = typed_check::typed_check(listing, heights, blinds);
@@ -268,39 +295,45 @@ fn compare(
     let expected = head.words;
     let answer = both(got.count as u64 == head.count, same_words(found, expected));
     if !answer {
-        report(head.number, b": another answer\n");
+        report(rt, head.number, b": another answer\n")?;
     }
-    let sheets = are_right(line, expected, heights, blinds);
+    let sheets = are_right(input, line, expected, heights, blinds)?;
     if !sheets {
-        report(head.number, b": other sheets\n");
+        report(rt, head.number, b": other sheets\n")?;
     }
-    both(answer, sheets)
+    Ok(both(answer, sheets))
 }
 
 // The same of the next listing of the list, which fills the text.
 fn compare_next(
+    rt: &impl Print,
+    input: &mut impl Read,
     head: Head,
     text: &mut [u8],
     line: &mut [u8],
     heights: &mut [u8],
     blinds: &mut [u8],
-) -> bool {
-    let n = io::read_full(STDIN_FILENO, text);
-    compare(head, &text[..n], line, heights, blinds)
+) -> io::Result<bool> {
+    let n = read_full(input, text)?;
+    compare(rt, input, head, &text[..n], line, heights, blinds)
 }
 
 // One entry, after its first line.
 fn one(
+    rt: &impl Print,
+    input: &mut impl Read,
     head: Head,
     line: &mut [u8],
     text: &mut [u8],
     heights: &mut [u8],
     blinds: &mut [u8],
-) -> bool {
+) -> io::Result<bool> {
     let t = within(head.bytes, text);
     let h = within(head.heights, heights);
     let b = within(head.blinds, blinds);
     compare_next(
+        rt,
+        input,
         head,
         &mut text[..t],
         line,
@@ -335,12 +368,10 @@ impl Tally {
         }
     }
 
-    fn print(self, text: &[u8]) {
-        print(text);
-        io::print_decimal(STDOUT_FILENO, self.run);
-        print(b" run, ");
-        io::print_decimal(STDOUT_FILENO, self.right);
-        print(b" right\n");
+    fn print(self, rt: &impl Print, text: &[u8]) -> io::Result<()> {
+        let Tally { run, right } = self;
+        print(rt, text)?;
+        println!(rt; "{run} run, {right} right")
     }
 }
 
@@ -352,22 +383,29 @@ struct Outcome {
 }
 
 // The next entry; past the last one nothing counts.
-fn next_entry(line: &mut [u8], text: &mut [u8], heights: &mut [u8], blinds: &mut [u8]) -> Outcome {
-    let n = read_line(line);
+fn next_entry(
+    rt: &impl Print,
+    input: &mut impl Read,
+    line: &mut [u8],
+    text: &mut [u8],
+    heights: &mut [u8],
+    blinds: &mut [u8],
+) -> io::Result<Outcome> {
+    let n = read_line(input, line)?;
     if n == 0 {
-        return Outcome {
+        return Ok(Outcome {
             counts: false,
             of_original: false,
             right: false,
-        };
+        });
     }
     let head = head_of(&line[..n]);
-    let right = one(head, line, text, heights, blinds);
-    Outcome {
+    let right = one(rt, input, head, line, text, heights, blinds)?;
+    Ok(Outcome {
         counts: true,
         of_original: head.of_original,
         right: right,
-    }
+    })
 }
 
 fn turns_left(turns: u64, go_on: bool) -> u64
@@ -380,25 +418,33 @@ fn turns_left(turns: u64, go_on: bool) -> u64
     0
 }
 
-fn run(line: &mut [u8], text: &mut [u8], heights: &mut [u8], blinds: &mut [u8]) {
+fn run(
+    rt: &impl Print,
+    input: &mut impl Read,
+    line: &mut [u8],
+    text: &mut [u8],
+    heights: &mut [u8],
+    blinds: &mut [u8],
+) -> io::Result<()> {
     let mut all = Tally { run: 0, right: 0 };
     let mut of_original = Tally { run: 0, right: 0 };
     let mut turns: u64 = 1000000;
     while 0 < turns {
-        let t = next_entry(line, text, heights, blinds);
+        let t = next_entry(rt, input, line, text, heights, blinds)?;
         all = all.add(t.counts, t.right);
         of_original = of_original.add(t.of_original, t.right);
         turns = turns_left(turns, t.counts);
     }
-    all.print(b"calls: ");
-    of_original.print(b"with the original's answer: ");
+    all.print(rt, b"calls: ")?;
+    of_original.print(rt, b"with the original's answer: ")
 }
 
 // A line has room for a sheet of 4,096 entries, and the text for one byte more than a listing may have.
-fn main() {
+fn main(rt: HostRuntime) -> io::Result<()> {
+    let mut input = BufReader::new(rt.alloc(), rt.stdin())?;
     let mut line = [0u8; 16384];
     let mut text = [0u8; 65537];
     let mut heights = [0u8; 4096];
     let mut blinds = [0u8; 4096];
-    run(&mut line, &mut text, &mut heights, &mut blinds);
+    run(&rt, &mut input, &mut line, &mut text, &mut heights, &mut blinds)
 }

@@ -6,4 +6,4 @@ use Rattle.stagecheck.specs.declared.Input.TheVariants.{Bytes, Failed}
 -- Where reading did not fail, at most n bytes were read.
 abbrev pub Within : Input → ℕ → Type 0
 Within (Bytes k) n = k ≤ n
-Within Failed n = Unit {0}
+Within (Failed why) n = Unit {0}

@@ -10,12 +10,13 @@ ghost use Rattle.walk.specs.Ready.{Roomy};
 use answer::Finding;
 use blocks::{Flow, Leaving};
 use bytecode::code;
-use libc::STDOUT_FILENO;
 use listing::Reading;
 use rules::Ctx;
+use std::io;
+use std::io::Write;
 
-fn print(text: &[u8]) {
-    io::write_all(STDOUT_FILENO, text);
+fn print(rt: &impl Print, text: &[u8]) -> io::Result<()> {
+    io::writer(rt).write_all(text)
 }
 
 fn wide(x: u8) -> u64 {
@@ -23,33 +24,37 @@ fn wide(x: u8) -> u64 {
 }
 
 // The entries of a sheet.
-fn print_sheet(name: &[u8], sheet: &[u8], n: usize)
+fn print_sheet(rt: &impl Print, name: &[u8], sheet: &[u8], n: usize) -> io::Result<()>
     requires { n ≤ length sheet.now }
 {
-    print(name);
-    let mut i = 0;
-    while i < n {
-        print(b" ");
-        io::print_decimal(STDOUT_FILENO, wide(sheet[i]));
-        i += 1;
+    print(rt, name)?;
+    for entry in &sheet[..n] {
+        let entry = wide(*entry);
+        print!(rt; " {entry}")?;
     }
-    print(b"\n");
+    print(rt, b"\n")
 }
 
 // The whole walk of chunk 0.
-fn show_walk(t: &[u64], heights: &mut [u8], blinds: &mut [u8], n: usize)
+fn show_walk(
+    rt: &impl Print,
+    t: &[u64],
+    heights: &mut [u8],
+    blinds: &mut [u8],
+    n: usize,
+) -> io::Result<()>
     requires roomy { Roomy t.now heights.old blinds.old 0 }
     requires n_in_bounds { (n ≤ length heights.old) × (n ≤ length blinds.old) }
 {
     let o = walk::walk_chunk(t, heights, blinds, 0);
     let f = o.flow;
     match f {
-        Flow::Refused(_) => print(b"walk refused\n"),
-        Flow::Ended => print(b"walk ended\n"),
-        Flow::Falls => print(b"walk fell through\n"),
+        Flow::Refused(_) => print(rt, b"walk refused\n")?,
+        Flow::Ended => print(rt, b"walk ended\n")?,
+        Flow::Falls => print(rt, b"walk fell through\n")?,
     }
-    print_sheet(b"heights", heights, n);
-    print_sheet(b"blinds", blinds, n);
+    print_sheet(rt, b"heights", heights, n)?;
+    print_sheet(rt, b"blinds", blinds, n)
 }
 
 // The last pass over the loop at ip, from the state in which its chunk begins.
@@ -92,7 +97,14 @@ fn last_pass(
 }
 
 // The last pass over the loop at ip of chunk 0.
-fn show_last(t: &[u64], heights: &mut [u8], blinds: &mut [u8], n: usize, ip: usize)
+fn show_last(
+    rt: &impl Print,
+    t: &[u64],
+    heights: &mut [u8],
+    blinds: &mut [u8],
+    n: usize,
+    ip: usize,
+) -> io::Result<()>
     requires roomy { Roomy t.now heights.old blinds.old 0 }
     requires n_in_bounds { (n ≤ length heights.old) × (n ≤ length blinds.old) }
 {
@@ -100,60 +112,58 @@ fn show_last(t: &[u64], heights: &mut [u8], blinds: &mut [u8], n: usize, ip: usi
     let first = x.first;
     let count = x.count;
     if count <= ip {
-        return;
+        return Ok(());
     }
     let i = bytecode::instr_at(t, first + ip);
     let code = i.code;
     let a = i.a;
     if code != code::LOOP {
-        return;
+        return Ok(());
     }
     let exit = a as usize;
     if exit <= ip + 1 {
-        return;
+        return Ok(());
     }
     if count < exit {
-        return;
+        return Ok(());
     }
     let f = last_pass(t, heights, blinds, x, ip, exit);
     match f {
-        Leaving::Stopped(_) => print(b"last pass refused\n"),
-        Leaving::After => print(b"last pass made\n"),
+        Leaving::Stopped(_) => print(rt, b"last pass refused\n")?,
+        Leaving::After => print(rt, b"last pass made\n")?,
     }
-    print_sheet(b"heights", heights, n);
-    print_sheet(b"blinds", blinds, n);
+    print_sheet(rt, b"heights", heights, n)?;
+    print_sheet(rt, b"blinds", blinds, n)
 }
 
-fn run(t: &[u64; 22232]) {
+fn run(rt: &impl Print, t: &[u64; 22232]) -> io::Result<()> {
     let r = nesting::check_nesting(t);
     let Finding::Nothing = r else {
-        print(b"not nested\n");
-        return;
+        return print(rt, b"not nested\n");
     };
     if bytecode::count(t, bytecode::CHUNKS) == 0 {
-        return;
+        return Ok(());
     }
     let code = bytecode::instructions_of(t, 0);
     let end = code.first + code.count;
     if 16 < end {
-        return;
+        return Ok(());
     }
     let mut heights = [0u8; 16];
     let mut blinds = [0u8; 16];
-    show_walk(t, &mut heights, &mut blinds, end);
+    show_walk(rt, t, &mut heights, &mut blinds, end)?;
     let mut more_heights = [0u8; 16];
     let mut more_blinds = [0u8; 16];
-    show_last(t, &mut more_heights, &mut more_blinds, end, 0);
+    show_last(rt, t, &mut more_heights, &mut more_blinds, end, 0)
 }
 
-fn main() {
+fn main(rt: HostRuntime) -> io::Result<()> {
     let mut tables = [0u64; 22232];
     let text =
         b"(module 8 8 6 0 0 8 9\n(sig (top) (top) (flat 0 16) (scalar 3))\n(chunk 2\n(op Loop 7)\n(op GetLocal 0)\n(op Dup)\n(op GetField Flat 8 1)\n(op SetLocal 1)\n(op SetLocal 0)\n(op EndLoop 0)\n(op Return)\n)\n)\n";
     let r = listing::read(text, &mut tables);
     let Reading::Module = r else {
-        print(b"not read\n");
-        return;
+        return print(&rt, b"not read\n");
     };
-    run(&tables);
+    run(&rt, &tables)
 }
