@@ -229,13 +229,7 @@ fn covers_agree(a: State, b: State, height: usize, locals: usize) -> bool
 
 // ---- the cases
 
-fn show(
-    rt: &impl Print,
-    seed: u64,
-    way: u64,
-    height: usize,
-    locals: usize,
-) -> io::Result<()>
+fn show(rt: &impl Print, seed: u64, way: u64, height: usize, locals: usize) -> io::Result<()>
     requires { (height ≤ 64) × (locals ≤ 32) }
 {
     let a = state_of(seed, way, false, height);
@@ -243,8 +237,16 @@ fn show(
     let joined = join_lent(a, b, height, locals);
     print_number(rt, b"operands ", height)?;
     print_number(rt, b" locals ", locals)?;
-    print_number(rt, b": changed ", count(IS_CHANGED, a, b, joined, 0, height))?;
-    print_number(rt, b" and ", count(IS_CHANGED, a, b, joined, 64, 64 + locals))?;
+    print_number(
+        rt,
+        b": changed ",
+        count(IS_CHANGED, a, b, joined, 0, height),
+    )?;
+    print_number(
+        rt,
+        b" and ",
+        count(IS_CHANGED, a, b, joined, 64, 64 + locals),
+    )?;
     if a.covers(b, locals) {
         print(rt, b", covered")?;
     } else {
