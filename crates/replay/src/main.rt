@@ -446,5 +446,12 @@ fn main(rt: HostRuntime) -> io::Result<()> {
     let mut text = [0u8; 65537];
     let mut heights = [0u8; 4096];
     let mut blinds = [0u8; 4096];
-    run(&rt, &mut input, &mut line, &mut text, &mut heights, &mut blinds)
+    run(
+        &rt,
+        &mut input,
+        &mut line,
+        &mut text,
+        &mut heights,
+        &mut blinds,
+    )
 }
