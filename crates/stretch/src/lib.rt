@@ -132,7 +132,7 @@ fn step_lent<'s, 'a>(
     r
 }
 
-// The same of a state that is lent in parts. The walk calls this one: a function that lends a struct is proved by hand, and one that calls this is not.
+// The same of a state that is lent in parts. The walk calls this one, and lends its arrays as they are.
 pub fn step(
     t: &[u64],
     heights: &mut [u8],

@@ -8,13 +8,13 @@ use lib.Dec.{T, leb, leb→le}
 use lib.ListN.{length, replicate}
 use Rattle.definition.specs.Basics.{Result, ok, refused, ◌>>=◌, first, pass}
 use Rattle.definition.specs.Instructions.{Chunk}
-use Rattle.definition.specs.Module.{Module, all_ops, chunks_of}
+use Rattle.definition.specs.Module.{Module, all_ops}
 use Rattle.definition.specs.Layout.{layout_test}
 use Rattle.definition.specs.Walk.{Sheets, Walked, walk_chunk}
 use Rattle.definition.specs.Check.{sheets_test, nesting_test, in_chunk, walk_all, zeros, check_module}
 use Rattle.theorems.specs.Nested.{Nested}
 use Rattle.theorems.specs.Each.{Each, both}
-use Rattle.theorems.specs.Cover.{no_some, no_ok, T_of, first_none, unless_none}
+use Rattle.theorems.specs.Cover.{no_some, T_of, first_none, unless_none}
 use Rattle.theorems.specs.Accepted.{all_nested}
 use Rattle.theorems.specs.Refusals.{known_walk, walk-known}
 use Rattle.bytecode.specs.Tables.{cap}

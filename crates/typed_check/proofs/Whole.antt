@@ -1,23 +1,20 @@
 -- From what was read, and from the module's check, to the whole.
-use mathlib.Core.Path.{◌≡◌, refl, sym, ap, ◌∙◌, subst}
-use mathlib.Core.Option.{Option, some}
-use mathlib.Core.List.{List, [], ◌∷◌}
+use mathlib.Core.Path.{◌≡◌, sym, ap, ◌∙◌, subst}
+use mathlib.Core.List.{List}
 use Prim.Native.Nat.{ℕ}
 use native.Mathlib.Omega.{arith}
 use lib.ListN.{length, replicate, length-replicate}
 use Rattle.definition.specs.Basics.{Result, ok, refused, ◌>>=◌, pass}
 use Rattle.definition.specs.Format.{Bytes}
-use Rattle.definition.specs.Module.{Module, Code, all_ops}
+use Rattle.definition.specs.Module.{Module, Code}
 use Rattle.definition.specs.Read.{read}
 use Rattle.definition.specs.Walk.{Sheets}
 use Rattle.definition.specs.Check.{Answer as AnyAnswer, accepted, refusal, Checked, check_module, conclude, check}
-use Rattle.definition.specs.Demand.{Demand3}
 use Rattle.theorems.specs.Accepted.{demand_3_of}
 use Rattle.bytecode.specs.Meaning.{count, module_of}
 use Rattle.listing.specs.Answer.{StandsIn, LeftIn, result_of}
 use Rattle.listing.specs.declared.Reading.{Reading}
 use Rattle.listing.specs.declared.Reading.TheVariants as R
-use Rattle.stretch.specs.Stretch.{sheets_of}
 use Rattle.answer.specs.declared.Refusal.{Refusal as Why}
 use Rattle.answer.specs.declared.Refusal.TheVariants as W
 use Rattle.answer.specs.declared.Answer.{Answer}

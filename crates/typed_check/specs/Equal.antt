@@ -1,5 +1,5 @@
 -- What the entry's types mean, and what it promises.
-use Rattle.std.specs.Prelude.{◌≡◌, List, [], ◌∷◌, ℕ, length}
+use Rattle.std.specs.Prelude.{◌≡◌, List, ℕ, length}
 use Rattle.std.proofs.Math.Option.{Option, none, some}
 use Rattle.definition.specs.Basics.{ok, first}
 use Rattle.definition.specs.Read.{read}

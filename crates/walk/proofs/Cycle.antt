@@ -1,6 +1,6 @@
 -- What the walkers of a stretch, of arms and of a loop know at each of their steps.
 use mathlib.Core.Path.{◌≡◌, refl, sym, ap, ◌∙◌, subst}
-use mathlib.Core.Logic.{◌⊎◌, ⊎_elim, ◌≢◌}
+use mathlib.Core.Logic.{◌≢◌}
 use mathlib.Core.Bool.{Bool, true, false}
 use mathlib.Core.Option.{Option, none, some}
 use mathlib.Core.List.{List, [], ◌∷◌}
@@ -10,21 +10,20 @@ use native.Mathlib.Decide.{dec_lt}
 use lib.ListN.{length, set}
 use Rattle.definition.specs.Basics.{Result, ok, refused, ◌>>=◌}
 use Rattle.definition.specs.Shapes.{Shape, same_shapes, join_all}
-use Rattle.definition.specs.Instructions.{Instr as AnyInstr, Chunk, Control, onward, resets, if_to, else_to, loop_to, control, control_at, control_of, instr_at}
+use Rattle.definition.specs.Instructions.{Chunk, Control, if_to, loop_to, control, control_at, control_of, instr_at}
 use Rattle.definition.specs.Nesting.{else_at}
-use Rattle.definition.specs.Walk.{State as AnyState, Sheets, Walked, Walker, Left as AnyLeft, Breaks as AnyBreaks, no_break, height, with_locals, mark, examine, join_ends}
+use Rattle.definition.specs.Walk.{State as AnyState, Sheets, Walked, Left as AnyLeft, Breaks as AnyBreaks, no_break, height, with_locals, join_ends}
 use Rattle.definition.specs.Walk.{go_on, walk_arms, leave, neutral, if_stable, pass_end, last_end, passes, forget, walk_instr}
 use Rattle.theorems.specs.Nested.{Arm, then_arm, else_arm, only_arm, loop_arm, Nested, IfRule, LoopRule}
-use Rattle.theorems.specs.Cover.{no_some}
 use Rattle.theorems.specs.Place.{rule_at, else_is}
 use Rattle.theorems.specs.Clear.{in_arm}
 use Rattle.theorems.specs.Facts.{is_quiet}
 use Rattle.theorems.specs.Fuel.{full, full_visit, full_end}
 use Rattle.frame.specs.declared.State.{State}
-use Rattle.frame.specs.Model.{state_of, stack_of, locals_of}
-use Rattle.bytecode.specs.Meaning.{chunk_of, first_op, op_count, locals_at, table_instr_at, code_length, chunk_locals}
+use Rattle.frame.specs.Model.{state_of, locals_of}
+use Rattle.bytecode.specs.Meaning.{first_op, op_count, locals_at, chunk_locals}
 use Rattle.blocks.specs.Outcomes.{numbers, pending_of, breaks_of, flow_of, walked_of, onward_of, rest_of, leaving_of, left_of, fall_of, meets, after_last, after_loop, loop_of, Open}
-use Rattle.answer.specs.Answer.{is_none, refusal, fields}
+use Rattle.answer.specs.Answer.{is_none, refusal}
 use Rattle.blocks.specs.Visits.{Placed, chunk_in, instr_in, Examined, mark_in, visit_in}
 use Rattle.stretch.specs.Stretch.{leads}
 use Rattle.walk.specs.Ready.{Ready, arms_in, forgotten, last_in}
@@ -43,10 +42,9 @@ use Rattle.blocks.specs.Outcomes.{OutcomeIn}
 use Rattle.blocks.specs.Outcomes.{OnwardIn}
 use Rattle.blocks.specs.Outcomes.{LeftIn}
 use Rattle.rules.specs.declared.Ctx.{Ctx}
-use Rattle.stretch.proofs.Codes.{instr_here, no_instr, straight-leads}
+use Rattle.stretch.proofs.Codes.{instr_here, no_instr}
 use Rattle.blocks.proofs.Laws.{height_is}
-use Rattle.stretch.proofs.Laws.{instr_refused, instr_onward, instr_resets, refused_is}
-use Rattle.blocks.proofs.Steps.{examined_ok, instr_if, visit_refused, quiet_mark}
+use Rattle.blocks.proofs.Steps.{examined_ok, instr_if, quiet_mark}
 
 -- ── A stretch ─────────────────────────────────────────────────────────────────────────────
 

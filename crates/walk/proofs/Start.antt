@@ -1,29 +1,24 @@
 -- The walk of a chunk, and of all.
 use mathlib.Core.Path.{◌≡◌, refl, sym, ap, ◌∙◌, subst}
-use mathlib.Core.Bool.{Bool, true, false}
-use mathlib.Core.Option.{Option, none, some}
-use mathlib.Core.List.{List, [], ◌∷◌, map}
-use mathlib.Core.Logic.{⊎_elim}
-use Prim.Native.Nat.{ℕ, zero, suc, ◌+◌, ◌-◌, ◌≤◌, ◌<◌}
+use mathlib.Core.List.{List, [], ◌∷◌}
+use Prim.Native.Nat.{ℕ, suc, ◌+◌, ◌-◌, ◌≤◌, ◌<◌}
 use native.Mathlib.Omega.{arith}
-use lib.ListN.{length, get_or, set, replicate}
+use lib.ListN.{length}
 use Rattle.definition.specs.Basics.{Result, ok, refused, ◌>>=◌}
-use Rattle.definition.specs.Shapes.{Shape, unknown, from_wire}
-use Rattle.definition.specs.Instructions.{Chunk, Sig}
-use Rattle.definition.specs.Module.{no_sig}
+use Rattle.definition.specs.Instructions.{Chunk}
 use Rattle.definition.specs.Walk.{State as AnyState, Sheets, Walked, no_break, params, start_locals, start, walk_chunk}
 use Rattle.definition.specs.Check.{in_chunk, walk_all}
 use Rattle.theorems.specs.Nested.{whole}
 use Rattle.theorems.specs.Fuel.{full, chunk_full}
 use Rattle.frame.specs.declared.State.{State}
-use Rattle.frame.specs.Model.{state_of, stack_of, locals_of, with_local}
+use Rattle.frame.specs.Model.{state_of}
 use Rattle.bytecode.specs.Lists.{tabulate}
-use Rattle.bytecode.specs.Meaning.{chunk_of, table_chunks, count, known_sigs, locals_at, locals_low, first_op, op_count, code_length, chunk_sig, chunk_locals}
+use Rattle.bytecode.specs.Meaning.{chunk_of, table_chunks, count, locals_at, locals_low, code_length, chunk_locals}
 use Rattle.rules.specs.declared.Ctx.{Ctx}
 use Rattle.rules.specs.Answers.{Of}
 use Rattle.blocks.specs.Outcomes.{numbers, pending_of, breaks_of, flow_of, walked_of, Open}
-use Rattle.blocks.specs.Visits.{Placed, chunk_in}
-use Rattle.walk.specs.Ready.{Ready, Roomy, results_of}
+use Rattle.blocks.specs.Visits.{chunk_in}
+use Rattle.walk.specs.Ready.{Ready, Roomy}
 use Rattle.answer.specs.Answer.{with_chunk}
 use Rattle.stretch.specs.Stretch.{sheets_of}
 use Rattle.answer.specs.declared.Verdict.{Verdict}

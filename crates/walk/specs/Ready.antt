@@ -1,5 +1,5 @@
 -- What the walkers ask of their arguments, and what they walk.
-use Rattle.std.specs.Prelude.{List, [], ◌∷◌, ℕ, suc, ◌+◌, ◌-◌, ◌≤◌, ◌<◌, length}
+use Rattle.std.specs.Prelude.{List, ℕ, suc, ◌+◌, ◌-◌, ◌≤◌, ◌<◌, length}
 use Rattle.definition.specs.Basics.{Result, ok, refused}
 use Rattle.definition.specs.Walk.{State as AnyState, Sheets, Walked, Left as AnyLeft, no_break, walk_arms, forget, with_locals}
 use Rattle.definition.specs.Nesting.{else_at}

@@ -1,7 +1,6 @@
 -- `explain::marked` meets its contract. It ends with the sheet. Assumes nothing.
 use Prim.Native.Nat.{◌≤◌, ◌-◌}
 use lib.ListN.{length}
-use borrow.Author.Rules.{rules}
 use Rattle.explain.proofs.marked.Given as goal
 
 abbrev pub invariant-loop-i : goal.invariant-loop-i

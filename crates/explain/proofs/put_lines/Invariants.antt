@@ -2,7 +2,6 @@
 use mathlib.Core.Path.{◌≡◌}
 use Prim.Native.Nat.{◌-◌}
 use lib.ListN.{length}
-use borrow.Author.Rules.{rules}
 use Rattle.explain.proofs.put_lines.Given as goal
 
 abbrev pub invariant-loop-from : goal.invariant-loop-from

@@ -1,11 +1,10 @@
 -- `stagecheck_c::give` meets its contract. The first i words are written over. Assumes nothing.
-use mathlib.Core.Path.{◌≡◌, sym, ap, ◌∙◌}
-use Prim.Native.Nat.{◌-◌, ◌≤◌}
+use mathlib.Core.Path.{◌≡◌, ap, ◌∙◌}
 use native.Mathlib.Omega.{arith}
 use lib.ListN.{length, set, get_or}
 use lib.Seq.{paste-zero}
 use borrow.Author.Rules.{rules}
-use Rattle.typed_check.proofs.Laws.{over, over_more, over_all, over_long}
+use Rattle.typed_check.proofs.Laws.{over_more, over_all, over_long}
 use Rattle.stagecheck_c.proofs.give.Goals as goal
 
 pub loop-i-init : goal.loop-i-init

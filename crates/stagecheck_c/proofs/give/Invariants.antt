@@ -1,11 +1,7 @@
 -- `stagecheck_c::give` meets its contract. The first i words are written over. Assumes nothing.
-use mathlib.Core.Path.{◌≡◌, sym, ap, ◌∙◌}
+use mathlib.Core.Path.{◌≡◌}
 use Prim.Native.Nat.{◌-◌, ◌≤◌}
-use native.Mathlib.Omega.{arith}
-use lib.ListN.{length, set, get_or}
-use lib.Seq.{paste-zero}
-use borrow.Author.Rules.{rules}
-use Rattle.typed_check.proofs.Laws.{over, over_more, over_all, over_long}
+use Rattle.typed_check.proofs.Laws.{over}
 use Rattle.stagecheck_c.proofs.give.Given as goal
 
 abbrev pub invariant-loop-i : goal.invariant-loop-i

@@ -1,6 +1,5 @@
 -- Assumes nothing.
 use Rattle.stagecheck_c.proofs.Laws.{line_answer, limit_answer, module_answer, line-left, limit-left, module_left}
-use borrow.Author.Rules.{rules}
 use Rattle.stagecheck_c.proofs.read_answer.Goals as goal
 
 pub returns-in-Line : goal.returns-in-Line

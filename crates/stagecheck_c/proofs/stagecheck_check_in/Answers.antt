@@ -1,5 +1,4 @@
 use Rattle.stagecheck_c.proofs.Laws.{given_all, sound_all}
-use borrow.Author.Rules.{rules}
 use Rattle.stagecheck_c.proofs.stagecheck_check_in.Goals as goal
 
 pub returns : goal.returns

@@ -1,6 +1,5 @@
 -- Assumes nothing.
 use Rattle.stagecheck_c.proofs.Laws.{read_all}
-use borrow.Author.Rules.{rules}
 use Rattle.stagecheck_c.proofs.stagecheck_read.Goals as goal
 
 pub read_answer-a-requires : goal.read_answer-a-requires

@@ -1,6 +1,5 @@
 -- Assumes nothing.
 use Rattle.stagecheck_c.proofs.Laws.{write_all, back_all, again_all}
-use borrow.Author.Rules.{rules}
 use Rattle.stagecheck_c.proofs.stagecheck_write.Goals as goal
 
 pub returns : goal.returns

@@ -3,7 +3,6 @@ use mathlib.Core.Path.{sym}
 use native.Mathlib.Omega.{arith}
 use lib.Seq.{length-take-le}
 use Rattle.stagecheck_text.proofs.Laws.{renamed, first_few, words_eight, count_few, refused_text, room, accepted_is}
-use borrow.Author.Rules.{rules}
 use Rattle.stagecheck_text.proofs.check_text_into.Goals as goal
 
 pub print_accepted-requires : goal.print_accepted-requires

@@ -1,7 +1,6 @@
 -- `typed_check::check_module` meets its contract. Assumes nothing.
 use mathlib.Core.Path.{refl, ◌∙◌}
 use Rattle.typed_check.proofs.Module.{tested_bad, tested_good, roomy, zeros_by}
-use borrow.Author.Rules.{rules}
 use Rattle.typed_check.proofs.check_module.Goals as goal
 
 pub returns-in_default : goal.returns-in_default

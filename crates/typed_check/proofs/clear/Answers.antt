@@ -1,8 +1,6 @@
 -- `typed_check::clear` meets its contract. Zeros are written over the first i entries. Assumes nothing.
-use mathlib.Core.Path.{◌≡◌, sym, ap, ◌∙◌}
-use Prim.Native.Nat.{◌-◌, ◌≤◌}
+use mathlib.Core.Path.{ap, ◌∙◌}
 use native.Mathlib.Omega.{arith}
-use borrow.Author.Rules.{rules}
 use lib.ListN.{length, set}
 use lib.Seq.{paste-zero}
 use Rattle.typed_check.proofs.Laws.{over, over_more, over_all, over_long, zeros, zeros-length, zero_at}

@@ -3,7 +3,6 @@ use mathlib.Core.Path.{refl}
 use Rattle.answer.specs.Answer.{found}
 use Rattle.typed_check.specs.Equal.{refused_in}
 use Rattle.typed_check.proofs.Laws.{by_case}
-use borrow.Author.Rules.{rules}
 use Rattle.typed_check.proofs.of_chunk.Goals as goal
 
 pub returns-in-Passed : goal.returns-in-Passed

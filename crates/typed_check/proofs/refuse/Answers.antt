@@ -1,6 +1,5 @@
 -- `typed_check::refuse` meets its contract. Assumes nothing.
 use Rattle.typed_check.proofs.Whole.{refused_is}
-use borrow.Author.Rules.{rules}
 use Rattle.typed_check.proofs.refuse.Goals as goal
 
 pub returns : goal.returns

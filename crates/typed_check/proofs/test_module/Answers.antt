@@ -1,7 +1,6 @@
 -- `typed_check::test_module` meets its contract. Assumes nothing.
 use Rattle.answer.proofs.Laws.{stops, goes}
 use Rattle.typed_check.specs.Equal.{tests_of}
-use borrow.Author.Rules.{rules}
 use Rattle.typed_check.proofs.test_module.Goals as goal
 
 pub returns-in_default : goal.returns-in_default

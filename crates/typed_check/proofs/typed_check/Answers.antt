@@ -1,5 +1,4 @@
 -- `typed_check::typed_check` meets its contract. Assumes nothing.
-use borrow.Author.Rules.{rules}
 use Rattle.typed_check.proofs.typed_check.Goals as goal
 
 pub returns : goal.returns

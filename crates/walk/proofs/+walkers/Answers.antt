@@ -1,22 +1,20 @@
 use borrow.Enum.Refused.{opened}
 use Rattle.stretch.specs.Stretch.{sheets_of, leads}
-use mathlib.Core.Path.{◌≡◌, refl, sym, ap, ◌∙◌, subst}
-use mathlib.Core.Option.{Option, none, some}
-use Prim.Native.Nat.{ℕ, suc, ◌+◌, ◌-◌, ◌*◌, ◌≤◌, ◌<◌}
+use mathlib.Core.Path.{refl, sym, ap, ◌∙◌, subst}
+use mathlib.Core.Option.{some}
+use Prim.Native.Nat.{ℕ, ◌+◌, ◌-◌, ◌≤◌}
 use native.Mathlib.Omega.{arith}
-use lib.ListN.{length, length-set}
-use Rattle.definition.specs.Instructions.{if_to, control}
-use Rattle.definition.specs.Walk.{State as AnyState, with_locals, forget}
+use Rattle.definition.specs.Instructions.{if_to}
+use Rattle.definition.specs.Walk.{State as AnyState}
 use Rattle.theorems.specs.Fuel.{full}
 use Rattle.bytecode.specs.Meaning.{locals_low}
 use Rattle.shapes.specs.Cover.{covers_all}
-use Rattle.frame.specs.Model.{at, Long, state_of, locals_of}
+use Rattle.frame.specs.Model.{at}
 use Rattle.blocks.specs.Outcomes as Outcomes
 use Rattle.blocks.specs.Outcomes.{breaks_in, outcome_in, onward_in, left_in}
 use Rattle.blocks.specs.Visits as Visits
 use Rattle.blocks.specs.declared.Breaks.{Breaks}
-use Rattle.blocks.specs.declared.Flow.{Flow}
-use Rattle.blocks.specs.declared.Flow.TheVariants.{Refused, Falls}
+use Rattle.blocks.specs.declared.Flow.TheVariants.{Refused}
 use Rattle.blocks.specs.declared.Pending.TheVariants.{Nothing}
 use Rattle.stretch.proofs.Codes as Codes
 use Rattle.blocks.proofs.Laws as Laws
@@ -24,10 +22,9 @@ use Rattle.blocks.proofs.Steps as Steps
 use Rattle.blocks.proofs.Guards as Guards
 use Rattle.rules.proofs.Tests.{is_none_eq}
 use Rattle.answer.proofs.Laws.{passed_yes, passed_no}
-use Rattle.walk.specs.Ready as Ready
 use Rattle.walk.proofs.Cycle as Cycle
 use borrow.Author.Rules.{rules}
-use Prim.Native.Nat.{ℕ, ◌<◌}
+use Prim.Native.Nat.{ℕ}
 use Rattle.walk.proofs.+walkers.Goals as goal
 
 pub block_at-loop_at-requires : goal.block_at-loop_at-requires
@@ -39,17 +36,21 @@ unfolding leads
 block_at-if_at-requires t c = (omega (arith, c.requires.ip_lt_end.0), (c.requires.ready, (c.requires.long, (c.requires.ip_lt_end.0, c.requires.ip_lt_end.3 ∙ ap (λ (k : ℕ). leads k c.args.target) c.in-65.is))))
 
 pub block_at-leaf_at-requires : goal.block_at-leaf_at-requires
-block_at-leaf_at-requires t c = record { placed = c.requires.ready.placed; long = c.requires.long; ip_lt_count = (
-      Cycle.inside c.args.t.now c.args.heights.now c.args.blinds.now c.args.x c.args.ip c.args.end c.args.floor _ _ c.requires.ready c.requires.ip_lt_end.0,
-      c.requires.ready.floor_low,
-      c.requires.ready.height_low,
-      c.requires.ready.breaks_low,
-      c.requires.ip_lt_end.1,
-      c.requires.ip_lt_end.2,
-      c.in_default.in_default-own.rest.1,
-      c.in_default.in_default-own.rest.0.1,
-      c.requires.ip_lt_end.3,
-    ) }
+block_at-leaf_at-requires t c = record {
+  placed = c.requires.ready.placed;
+  long = c.requires.long;
+  ip_lt_count = (
+    Cycle.inside c.args.t.now c.args.heights.now c.args.blinds.now c.args.x c.args.ip c.args.end c.args.floor _ _ c.requires.ready c.requires.ip_lt_end.0,
+    c.requires.ready.floor_low,
+    c.requires.ready.height_low,
+    c.requires.ready.breaks_low,
+    c.requires.ip_lt_end.1,
+    c.requires.ip_lt_end.2,
+    c.in_default.in_default-own.rest.1,
+    c.in_default.in_default-own.rest.0.1,
+    c.requires.ip_lt_end.3,
+  );
+}
 
 pub block_at-returns-in-69 : goal.block_at-returns-in-69
 unfolding leads
@@ -192,20 +193,22 @@ interp_region-loop-ip-init t c = (c.requires.long.0, c.requires.long.1, record {
 
 pub interp_region-overflow_add-first : goal.interp_region-overflow_add-first
 interp_region-overflow_add-first t c = omega (
-      arith,
-      Cycle.inside c.args.t.now c.loop-ip.heights c.loop-ip.blinds c.args.x c.loop-ip.ip c.args.end c.args.floor _ _ c.loop-ip.invariant.2.ready c.loop-ip-test.true,
-      c.requires.ready.placed.of.within,
-    )
+  arith,
+  Cycle.inside c.args.t.now c.loop-ip.heights c.loop-ip.blinds c.args.x c.loop-ip.ip c.args.end c.args.floor _ _ c.loop-ip.invariant.2.ready c.loop-ip-test.true,
+  c.requires.ready.placed.of.within,
+)
 
 pub interp_region-instr_at-i-requires : goal.interp_region-instr_at-i-requires
 interp_region-instr_at-i-requires t c = omega (
-      arith,
-      Cycle.inside c.args.t.now c.loop-ip.heights c.loop-ip.blinds c.args.x c.loop-ip.ip c.args.end c.args.floor _ _ c.loop-ip.invariant.2.ready c.loop-ip-test.true,
-      c.requires.ready.placed.of.within,
-    )
+  arith,
+  Cycle.inside c.args.t.now c.loop-ip.heights c.loop-ip.blinds c.args.x c.loop-ip.ip c.args.end c.args.floor _ _ c.loop-ip.invariant.2.ready c.loop-ip-test.true,
+  c.requires.ready.placed.of.within,
+)
 
 pub interp_region-step-e-requires : goal.interp_region-step-e-requires
-interp_region-step-e-requires t c = record { of = c.loop-ip.invariant.2.ready.placed.of; count_in_bounds = (
+interp_region-step-e-requires t c = record {
+  of = c.loop-ip.invariant.2.ready.placed.of;
+  count_in_bounds = (
     c.loop-ip.invariant.2.ready.placed.heights_long,
     c.loop-ip.invariant.2.ready.placed.blinds_long,
     c.loop-ip.invariant.0,
@@ -213,7 +216,8 @@ interp_region-step-e-requires t c = record { of = c.loop-ip.invariant.2.ready.pl
     Cycle.end_inside _ _ _ _ _ _ _ _ _ c.loop-ip.invariant.2.ready,
     c.requires.ready.floor_low,
     c.loop-ip.invariant.2.ready.height_low,
-  ) }
+  );
+}
 
 pub interp_region-returns-in_default : goal.interp_region-returns-in_default
 interp_region-returns-in_default t c = (
@@ -232,12 +236,12 @@ interp_region-returns-in_default t c = (
 
 pub interp_region-loop-ip-smaller-then-is_straight : goal.interp_region-loop-ip-smaller-then-is_straight
 interp_region-loop-ip-smaller-then-is_straight t c = omega (
-      arith,
-      c.loop-ip-test.true,
-      c.step-e.ensures.1.moved (sym (passed_yes _ c.in-Passed.is)) c.loop-ip-test.true (Cycle.straight_here c.args.t.now c.args.x
-          c.loop-ip.ip _ c.instr_at-i.ensures _ c.is_straight.ensures c.if-is_straight.true),
-      c.step-e.ensures.1.to,
-    )
+  arith,
+  c.loop-ip-test.true,
+  c.step-e.ensures.1.moved (sym (passed_yes _ c.in-Passed.is)) c.loop-ip-test.true (Cycle.straight_here c.args.t.now c.args.x
+      c.loop-ip.ip _ c.instr_at-i.ensures _ c.is_straight.ensures c.if-is_straight.true),
+  c.step-e.ensures.1.to,
+)
 
 pub interp_region-loop-ip-preserved-then-is_straight : goal.interp_region-loop-ip-preserved-then-is_straight
 interp_region-loop-ip-preserved-then-is_straight t c = (
@@ -378,24 +382,24 @@ loop_at-mark_height-requires t c = (omega (arith, Cycle.inside c.args.t.now c.ar
 
 pub loop_at-passes_at-l-requires : goal.loop_at-passes_at-l-requires
 loop_at-passes_at-l-requires t c = let q = Cycle.loop_in c.args.t.now c.args.heights.now c.args.blinds.now c.args.x c.args.target c.args.ip c.args.end c.args.floor _ _ c.requires.ready c.requires.ip_lt_end.0 c.requires.ip_lt_end.1 in (
-      omega (arith, q.0, q.1),
+  omega (arith, q.0, q.1),
+  (
+    Cycle.placed_by c.args.t.now c.args.heights.now c.args.blinds.now _ c.args.blinds.now c.args.x c.mark_height.auto.heights refl c.requires.ready.placed,
+    (
+      (c.requires.long.0, search rules),
       (
-        Cycle.placed_by c.args.t.now c.args.heights.now c.args.blinds.now _ c.args.blinds.now c.args.x c.mark_height.auto.heights refl c.requires.ready.placed,
-        (
-          (c.requires.long.0, search rules),
-          (
-            q.0,
-            omega (
-              arith,
-              q.1,
-              Cycle.arm_in c.args.t.now c.args.x _ c.args.end c.requires.ready.placed.of.count c.requires.ready.placed.of.first c.requires.ready.placed.nested c.requires.ready.arm,
-            ),
-            c.requires.ready.height_low,
-            c.requires.ip_lt_end.1,
-          ),
+        q.0,
+        omega (
+          arith,
+          q.1,
+          Cycle.arm_in c.args.t.now c.args.x _ c.args.end c.requires.ready.placed.of.count c.requires.ready.placed.of.first c.requires.ready.placed.nested c.requires.ready.arm,
         ),
+        c.requires.ready.height_low,
+        c.requires.ip_lt_end.1,
       ),
-    )
+    ),
+  ),
+)
 
 pub loop_at-returns : goal.loop_at-returns
 loop_at-returns t c = (
@@ -425,33 +429,33 @@ one_arm-copy-requires t c = (search rules, c.requires.long.0, c.requires.ready.h
 
 pub one_arm-interp_region-a-requires : goal.one_arm-interp_region-a-requires
 one_arm-interp_region-a-requires t c = let q = Cycle.one_arm_in c.args.t.now c.args.heights.now c.args.blinds.now c.args.x c.args.target c.args.ip c.args.end c.args.floor _ _ c.requires.ready c.requires.ip_lt_end.0 c.requires.ip_lt_end.1 c.requires.ip_lt_end.2 in (
-      omega (
-        arith,
-        q.0,
-        q.1,
-      ),
-      (
-        record {
-          placed = c.requires.ready.placed;
-          from = c.args.ip + 1;
-          arm = q.2;
-          after = omega arith;
-          before = omega (arith, q.0);
-          floor_low =
-              c.requires.ready.floor_low;
-          height_low = c.requires.ready.height_low;
-          breaks_low = c.requires.ready.breaks_low;
-        },
-        c.requires.long,
-      ),
-    )
+  omega (
+    arith,
+    q.0,
+    q.1,
+  ),
+  (
+    record {
+      placed = c.requires.ready.placed;
+      from = c.args.ip + 1;
+      arm = q.2;
+      after = omega arith;
+      before = omega (arith, q.0);
+      floor_low =
+          c.requires.ready.floor_low;
+      height_low = c.requires.ready.height_low;
+      breaks_low = c.requires.ready.breaks_low;
+    },
+    c.requires.long,
+  ),
+)
 
 pub one_arm-overflow_add-result : goal.one_arm-overflow_add-result
 one_arm-overflow_add-result t c = let q = Cycle.one_arm_in c.args.t.now c.args.heights.now c.args.blinds.now c.args.x c.args.target c.args.ip c.args.end c.args.floor _ _ c.requires.ready c.requires.ip_lt_end.0 c.requires.ip_lt_end.1 c.requires.ip_lt_end.2 in omega (
-      arith,
-      q.1,
-      c.ranges,
-    )
+  arith,
+  q.1,
+  c.ranges,
+)
 
 pub one_arm-returns-in-Refused : goal.one_arm-returns-in-Refused
 one_arm-returns-in-Refused t c = (
@@ -481,10 +485,10 @@ one_arm-join_ends-m-requires t c = (
 
 pub one_arm-overflow_add-result-2 : goal.one_arm-overflow_add-result-2
 one_arm-overflow_add-result-2 t c = let q = Cycle.one_arm_in c.args.t.now c.args.heights.now c.args.blinds.now c.args.x c.args.target c.args.ip c.args.end c.args.floor _ _ c.requires.ready c.requires.ip_lt_end.0 c.requires.ip_lt_end.1 c.requires.ip_lt_end.2 in omega (
-      arith,
-      q.1,
-      c.ranges,
-    )
+  arith,
+  q.1,
+  c.ranges,
+)
 
 pub one_arm-returns : goal.one_arm-returns
 unfolding Outcomes.fall_of
@@ -668,34 +672,34 @@ two_arms-overflow_sub-target t c = let q = Cycle.two_arms_in c.args.t.now c.args
 
 pub two_arms-interp_region-a-requires : goal.two_arms-interp_region-a-requires
 two_arms-interp_region-a-requires t c = let q = Cycle.two_arms_in c.args.t.now c.args.heights.now c.args.blinds.now c.args.x c.args.target c.args.ip c.args.end c.args.floor _ _ c.requires.ready c.requires.ip_lt_end.0 c.requires.ip_lt_end.1 c.args.closer c.requires.ip_lt_end.2 in (
-      omega (
-        arith,
-        q.0,
-        q.1,
-        q.2,
-      ),
-      (
-        record {
-          placed = c.requires.ready.placed;
-          from = c.args.ip + 1;
-          arm = q.3;
-          after = omega arith;
-          before = omega (arith, q.0);
-          floor_low =
-              c.requires.ready.floor_low;
-          height_low = c.requires.ready.height_low;
-          breaks_low = c.requires.ready.breaks_low;
-        },
-        c.requires.long,
-      ),
-    )
+  omega (
+    arith,
+    q.0,
+    q.1,
+    q.2,
+  ),
+  (
+    record {
+      placed = c.requires.ready.placed;
+      from = c.args.ip + 1;
+      arm = q.3;
+      after = omega arith;
+      before = omega (arith, q.0);
+      floor_low =
+          c.requires.ready.floor_low;
+      height_low = c.requires.ready.height_low;
+      breaks_low = c.requires.ready.breaks_low;
+    },
+    c.requires.long,
+  ),
+)
 
 pub two_arms-overflow_add-result : goal.two_arms-overflow_add-result
 two_arms-overflow_add-result t c = let q = Cycle.two_arms_in c.args.t.now c.args.heights.now c.args.blinds.now c.args.x c.args.target c.args.ip c.args.end c.args.floor _ _ c.requires.ready c.requires.ip_lt_end.0 c.requires.ip_lt_end.1 c.args.closer c.requires.ip_lt_end.2 in omega (
-      arith,
-      q.2,
-      c.ranges,
-    )
+  arith,
+  q.2,
+  c.ranges,
+)
 
 pub two_arms-returns-in-Refused : goal.two_arms-returns-in-Refused
 two_arms-returns-in-Refused t c = (
@@ -709,34 +713,34 @@ two_arms-returns-in-Refused t c = (
 
 pub two_arms-interp_region-e-requires : goal.two_arms-interp_region-e-requires
 two_arms-interp_region-e-requires t c = let q = Cycle.two_arms_in c.args.t.now c.args.heights.now c.args.blinds.now c.args.x c.args.target c.args.ip c.args.end c.args.floor _ _ c.requires.ready c.requires.ip_lt_end.0 c.requires.ip_lt_end.1 c.args.closer c.requires.ip_lt_end.2 in (
-      omega (
-        arith,
-        q.0,
-        q.1,
-        q.2,
-      ),
-      (
-        record {
-          placed = Cycle.placed_by c.args.t.now c.args.heights.now c.args.blinds.now _ _ c.args.x c.interp_region-a.auto.heights c.interp_region-a.auto.blinds
-              c.requires.ready.placed;
-          from = c.args.target;
-          arm = q.4;
-          after = omega arith;
-          before = q.1;
-          floor_low = c.requires.ready.floor_low;
-          height_low = c.requires.ready.height_low;
-          breaks_low = c.interp_region-a.ensures.3.1;
-        },
-        (c.copy.ensures.0, c.interp_region-a.ensures.1),
-      ),
-    )
+  omega (
+    arith,
+    q.0,
+    q.1,
+    q.2,
+  ),
+  (
+    record {
+      placed = Cycle.placed_by c.args.t.now c.args.heights.now c.args.blinds.now _ _ c.args.x c.interp_region-a.auto.heights c.interp_region-a.auto.blinds
+          c.requires.ready.placed;
+      from = c.args.target;
+      arm = q.4;
+      after = omega arith;
+      before = q.1;
+      floor_low = c.requires.ready.floor_low;
+      height_low = c.requires.ready.height_low;
+      breaks_low = c.interp_region-a.ensures.3.1;
+    },
+    (c.copy.ensures.0, c.interp_region-a.ensures.1),
+  ),
+)
 
 pub two_arms-overflow_add-result-in-Refused-g : goal.two_arms-overflow_add-result-in-Refused-g
 two_arms-overflow_add-result-in-Refused-g t c = let q = Cycle.two_arms_in c.args.t.now c.args.heights.now c.args.blinds.now c.args.x c.args.target c.args.ip c.args.end c.args.floor _ _ c.requires.ready c.requires.ip_lt_end.0 c.requires.ip_lt_end.1 c.args.closer c.requires.ip_lt_end.2 in omega (
-      arith,
-      q.2,
-      c.ranges,
-    )
+  arith,
+  q.2,
+  c.ranges,
+)
 
 pub two_arms-returns-in-Refused-g : goal.two_arms-returns-in-Refused-g
 two_arms-returns-in-Refused-g t c = (
@@ -769,10 +773,10 @@ two_arms-join_ends-m-requires t c = (
 
 pub two_arms-overflow_add-result-2 : goal.two_arms-overflow_add-result-2
 two_arms-overflow_add-result-2 t c = let q = Cycle.two_arms_in c.args.t.now c.args.heights.now c.args.blinds.now c.args.x c.args.target c.args.ip c.args.end c.args.floor _ _ c.requires.ready c.requires.ip_lt_end.0 c.requires.ip_lt_end.1 c.args.closer c.requires.ip_lt_end.2 in omega (
-      arith,
-      q.2,
-      c.ranges,
-    )
+  arith,
+  q.2,
+  c.ranges,
+)
 
 pub two_arms-returns : goal.two_arms-returns
 two_arms-returns t c = (

@@ -1,32 +1,8 @@
-use Rattle.stretch.specs.Stretch.{sheets_of, leads}
-use mathlib.Core.Path.{◌≡◌, refl, sym, ap, ◌∙◌, subst}
-use mathlib.Core.Option.{Option, none, some}
-use Prim.Native.Nat.{ℕ, suc, ◌+◌, ◌-◌, ◌*◌, ◌≤◌, ◌<◌}
-use native.Mathlib.Omega.{arith}
-use lib.ListN.{length, length-set}
-use Rattle.definition.specs.Instructions.{if_to, control}
-use Rattle.definition.specs.Walk.{State as AnyState, with_locals, forget}
-use Rattle.theorems.specs.Fuel.{full}
-use Rattle.bytecode.specs.Meaning.{locals_low}
-use Rattle.shapes.specs.Cover.{covers_all}
-use Rattle.frame.specs.Model.{at, Long, state_of, locals_of}
-use Rattle.blocks.specs.Outcomes as Outcomes
-use Rattle.blocks.specs.Outcomes.{breaks_in, outcome_in, onward_in, left_in}
-use Rattle.blocks.specs.Visits as Visits
-use Rattle.blocks.specs.declared.Breaks.{Breaks}
-use Rattle.blocks.specs.declared.Flow.{Flow}
-use Rattle.blocks.specs.declared.Flow.TheVariants.{Refused, Falls}
-use Rattle.blocks.specs.declared.Pending.TheVariants.{Nothing}
-use Rattle.stretch.proofs.Codes as Codes
-use Rattle.blocks.proofs.Laws as Laws
-use Rattle.blocks.proofs.Steps as Steps
-use Rattle.blocks.proofs.Guards as Guards
-use Rattle.rules.proofs.Tests.{is_none_eq}
-use Rattle.answer.proofs.Laws.{passed_yes, passed_no}
-use Rattle.walk.specs.Ready as Ready
+use mathlib.Core.Path.{◌≡◌}
+use Prim.Native.Nat.{◌-◌, ◌*◌}
+use Rattle.frame.specs.Model.{at, Long, state_of}
+use Rattle.blocks.specs.Outcomes.{breaks_in}
 use Rattle.walk.proofs.Cycle as Cycle
-use borrow.Author.Rules.{rules}
-use Prim.Native.Nat.{ℕ, ◌<◌}
 use Rattle.walk.proofs.+walkers.Given as goal
 
 abbrev pub decreases-block_at : goal.decreases-block_at

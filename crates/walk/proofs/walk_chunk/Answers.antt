@@ -1,7 +1,6 @@
 use mathlib.Core.Path.{refl}
 use Rattle.frame.specs.Model.{at}
-use Rattle.blocks.specs.Outcomes.{breaks_in, outcome_in}
-use Rattle.blocks.specs.declared.Pending.TheVariants.{Nothing}
+use Rattle.blocks.specs.Outcomes.{outcome_in}
 use Rattle.walk.proofs.Start.{locals_few, chunk_ready, chunk_walked}
 use borrow.Author.Rules.{rules}
 use Rattle.walk.proofs.walk_chunk.Goals as goal

@@ -1,13 +1,10 @@
 use borrow.Enum.Refused.{opened}
-use mathlib.Core.Path.{◌≡◌, refl, sym, ◌∙◌}
-use Prim.Native.Nat.{◌-◌}
 use native.Mathlib.Omega.{arith}
-use Rattle.bytecode.specs.Meaning.{count, count_low}
+use Rattle.bytecode.specs.Meaning.{count_low}
 use Rattle.walk.specs.Ready.{results_of}
 use Rattle.blocks.proofs.Laws.{open_by}
 use Rattle.blocks.specs.Outcomes.{outcome_in}
-use Rattle.walk.proofs.Start.{WalkedTo, walked_none, walked_refused, walked_more, walked_all, roomy_by}
-use borrow.Author.Rules.{rules}
+use Rattle.walk.proofs.Start.{walked_none, walked_refused, walked_more, walked_all, roomy_by}
 use Rattle.walk.proofs.walk_chunks.Goals as goal
 
 pub loop-k-init : goal.loop-k-init

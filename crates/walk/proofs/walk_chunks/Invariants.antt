@@ -1,12 +1,6 @@
-use mathlib.Core.Path.{◌≡◌, refl, sym, ◌∙◌}
 use Prim.Native.Nat.{◌-◌}
-use native.Mathlib.Omega.{arith}
-use Rattle.bytecode.specs.Meaning.{count, count_low}
-use Rattle.walk.specs.Ready.{results_of}
-use Rattle.blocks.proofs.Laws.{open_by}
-use Rattle.blocks.specs.Outcomes.{outcome_in}
-use Rattle.walk.proofs.Start.{WalkedTo, walked_none, walked_refused, walked_more, walked_all, roomy_by}
-use borrow.Author.Rules.{rules}
+use Rattle.bytecode.specs.Meaning.{count}
+use Rattle.walk.proofs.Start.{WalkedTo}
 use Rattle.walk.proofs.walk_chunks.Given as goal
 
 abbrev pub invariant-loop-k : goal.invariant-loop-k

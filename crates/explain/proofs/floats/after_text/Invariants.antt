@@ -1,6 +1,5 @@
 use Prim.Native.Nat.{◌≤◌, ◌-◌}
 use lib.ListN.{length}
-use borrow.Author.Rules.{rules}
 use Rattle.explain.proofs.floats.after_text.Given as goal
 
 abbrev pub invariant-loop-j : goal.invariant-loop-j

@@ -1,6 +1,5 @@
 -- `explain::lines::begins` meets its contract. It ends with the form. Assumes nothing.
 use Prim.Native.Nat.{◌≤◌, ◌-◌}
-use borrow.Author.Rules.{rules}
 use Rattle.explain.proofs.lines.begins.Given as goal
 
 abbrev pub invariant-loop-j : goal.invariant-loop-j

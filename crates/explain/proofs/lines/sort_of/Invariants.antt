@@ -1,6 +1,5 @@
 -- `explain::lines::sort_of` meets its contract. It ends with the forms. Assumes nothing.
 use Prim.Native.Nat.{◌≤◌, ◌-◌}
-use borrow.Author.Rules.{rules}
 use Rattle.explain.proofs.lines.sort_of.Given as goal
 
 abbrev pub invariant-loop-sort : goal.invariant-loop-sort

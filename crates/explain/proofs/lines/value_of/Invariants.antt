@@ -1,7 +1,6 @@
 -- `explain::lines::value_of` meets its contract. It ends with the listing. Assumes nothing.
 use Prim.Native.Nat.{◌≤◌, ◌-◌}
 use lib.ListN.{length}
-use borrow.Author.Rules.{rules}
 use Rattle.explain.proofs.lines.value_of.Given as goal
 
 abbrev pub invariant-loop-i : goal.invariant-loop-i

@@ -1,6 +1,5 @@
 -- `explain::put::first_place` meets its contract. The place value is never 0, and grows up to n. Assumes nothing.
 use Prim.Native.Nat.{◌<◌, ◌-◌}
-use borrow.Author.Rules.{rules}
 use Rattle.explain.proofs.put.first_place.Given as goal
 
 abbrev pub invariant-loop-place : goal.invariant-loop-place

@@ -1,7 +1,6 @@
 -- `explain::put::number` meets its contract. The text keeps its length, and the place value falls to 0. Assumes nothing.
 use mathlib.Core.Path.{◌≡◌}
 use lib.ListN.{length}
-use borrow.Author.Rules.{rules}
 use Rattle.explain.proofs.put.number.Given as goal
 
 abbrev pub invariant-loop-place : goal.invariant-loop-place

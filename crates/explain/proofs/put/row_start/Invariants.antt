@@ -1,7 +1,6 @@
 -- `explain::put::row_start` meets its contract. It ends with the rows. Assumes nothing.
 use Prim.Native.Nat.{◌≤◌, ◌-◌}
 use lib.ListN.{length}
-use borrow.Author.Rules.{rules}
 use Rattle.explain.proofs.put.row_start.Given as goal
 
 abbrev pub invariant-loop-i : goal.invariant-loop-i
