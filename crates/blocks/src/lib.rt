@@ -432,7 +432,7 @@ fn trap_at(
     b: Breaks,
 ) -> Onward
     requires placed { Placed t.now heights.old blinds.old x }
-    requires ip_lt_count { (ip < x.count) × (floor ≤ 64) × (height ≤ 64) × (b.height ≤ 64) × (control (instr_in t.now x ip) ≡ stops) }
+    requires inside { (ip < x.count) × (floor ≤ 64) × (height ≤ 64) × (b.height ≤ 64) × (control (instr_in t.now x ip) ≡ stops) }
     ensures { ((end : ℕ) (s p q h : List ℕ) → visit_in t.now x ip end floor (at height s p) (breaks_in b q h) (sheets_of heights.old blinds.old) stops ≡ rest_of (chunk_in t.now x) x.locals end floor (onward_in result s p q h) (sheets_of heights.new blinds.new)) × Steps ip result }
 {
     let first = x.first;
@@ -470,7 +470,7 @@ fn break_if_at(
 ) -> Onward
     requires placed { Placed t.now heights.old blinds.old x }
     requires long { Long slots.now places.now × Long broken.old held.old }
-    requires ip_lt_count { (ip < x.count) × (floor ≤ 64) × (height ≤ 64) × (b.height ≤ 64) × (control (instr_in t.now x ip) ≡ break_if_to target) }
+    requires inside { (ip < x.count) × (floor ≤ 64) × (height ≤ 64) × (b.height ≤ 64) × (control (instr_in t.now x ip) ≡ break_if_to target) }
     ensures { Long broken.new held.new × ((end : ℕ) → visit_in t.now x ip end floor (at height slots.now places.now) (breaks_in b broken.old held.old) (sheets_of heights.old blinds.old) (break_if_to target) ≡ rest_of (chunk_in t.now x) x.locals end floor (onward_in result slots.now places.now broken.new held.new) (sheets_of heights.new blinds.new)) × Steps ip result }
 {
     let locals = x.locals;
@@ -503,7 +503,7 @@ fn quiet_at(
     b: Breaks,
 ) -> Onward
     requires long { Long slots.now places.now × Long broken.old held.old }
-    requires count_in_bounds { (x.first + x.count ≤ length heights.old) × (x.first + x.count ≤ 4096) × (ip < x.count) × (x.locals ≤ 32) × (height ≤ 64) × (b.height ≤ 64) }
+    requires inside { (x.first + x.count ≤ length heights.old) × (x.first + x.count ≤ 4096) × (ip < x.count) × (x.locals ≤ 32) × (height ≤ 64) × (b.height ≤ 64) }
     ensures { Long broken.new held.new × Quietly x code ip (at height slots.now places.now) (breaks_in b broken.old held.old) heights.old heights.new (onward_in result slots.now places.now broken.new held.new) × Steps ip result }
 {
     let first = x.first;
@@ -564,7 +564,7 @@ pub fn leaf_at(
 ) -> Onward
     requires placed { Placed t.now heights.old blinds.old x }
     requires long { Long slots.now places.now × Long broken.old held.old }
-    requires ip_lt_count { (ip < x.count) × (floor ≤ 64) × (height ≤ 64) × (b.height ≤ 64) × (code < 75) × (straight code ≡ false) × (code ≢ 65) × (code ≢ 69) × (control (instr_in t.now x ip) ≡ leads code target) }
+    requires inside { (ip < x.count) × (floor ≤ 64) × (height ≤ 64) × (b.height ≤ 64) × (code < 75) × (straight code ≡ false) × (code ≢ 65) × (code ≢ 69) × (control (instr_in t.now x ip) ≡ leads code target) }
     ensures { Long broken.new held.new × ((end : ℕ) → visit_in t.now x ip end floor (at height slots.now places.now) (breaks_in b broken.old held.old) (sheets_of heights.old blinds.old) (leads code target) ≡ rest_of (chunk_in t.now x) x.locals end floor (onward_in result slots.now places.now broken.new held.new) (sheets_of heights.new blinds.new)) × Steps ip result }
 {
     match code {
@@ -585,7 +585,7 @@ pub fn leaf_at(
 // The local that the instruction at p writes becomes unknown.
 fn invalidate_local(t: &[u64], slots: &mut [u64; 96], places: &mut [u32; 1536], x: Ctx, p: usize)
     requires long { Long slots.old places.old }
-    requires first_value { (x.first ≡ first_op t.now x.chunk) × (x.count ≡ op_count t.now x.chunk) × (x.first + x.count ≤ 4096) × (p < x.count) × (x.locals ≤ 32) }
+    requires inside { (x.first ≡ first_op t.now x.chunk) × (x.count ≡ op_count t.now x.chunk) × (x.first + x.count ≤ 4096) × (p < x.count) × (x.locals ≤ 32) }
     ensures { Long slots.new places.new × ((h : ℕ) → h ≤ 64 → state_of x.locals (at h slots.new places.new) ≡ with_locals (state_of x.locals (at h slots.old places.old)) (forget (chunk_in t.now x) p 1 (locals_of x.locals (at h slots.old places.old)))) }
 {
     let first = x.first;
@@ -609,7 +609,7 @@ pub fn invalidate_written_locals(
     end: usize,
 )
     requires long { Long slots.old places.old }
-    requires first_value { (x.first ≡ first_op t.now x.chunk) × (x.count ≡ op_count t.now x.chunk) × (x.first + x.count ≤ 4096) × (end ≤ x.count) × (x.locals ≤ 32) }
+    requires inside { (x.first ≡ first_op t.now x.chunk) × (x.count ≡ op_count t.now x.chunk) × (x.first + x.count ≤ 4096) × (end ≤ x.count) × (x.locals ≤ 32) }
     ensures { Long slots.new places.new × ((h : ℕ) → h ≤ 64 → state_of x.locals (at h slots.new places.new) ≡ with_locals (state_of x.locals (at h slots.old places.old)) (forget (chunk_in t.now x) start (end - start) (locals_of x.locals (at h slots.old places.old)))) }
 {
     let mut p = start;

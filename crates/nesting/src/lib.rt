@@ -263,9 +263,9 @@ fn first_deep(found: ChunkNesting, h: usize, p: u16) -> ChunkNesting
 
 // Entry h of the stack.
 fn open_at(middles: &[u16], closers: &[u16], targets: &[u16], h: usize) -> Open
-    requires h_in_bounds { h < length middles.now }
-    requires h_in_bounds_2 { h < length closers.now }
-    requires h_in_bounds_3 { h < length targets.now }
+    requires in_middles { h < length middles.now }
+    requires in_closers { h < length closers.now }
+    requires in_targets { h < length targets.now }
     ensures { result ≡ open_at middles.now closers.now targets.now h }
 {
     Open {
@@ -283,10 +283,10 @@ fn check_code(
     closers: &mut [u16],
     targets: &mut [u16],
 ) -> ChunkNesting
-    requires size_bound { code.first + code.size ≤ 4096 }
-    requires size_in_bounds { code.size < length middles.old }
-    requires size_in_bounds_2 { code.size < length closers.old }
-    requires size_in_bounds_3 { code.size < length targets.old }
+    requires in_table { code.first + code.size ≤ 4096 }
+    requires middles_long { code.size < length middles.old }
+    requires closers_long { code.size < length closers.old }
+    requires targets_long { code.size < length targets.old }
     ensures { (c : Chunk) → Coded c t.now code → NestingIs c result }
 {
     let size = code.size;

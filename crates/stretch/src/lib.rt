@@ -57,7 +57,7 @@ pub fn stretch(
     height: usize,
 ) -> Ran
     requires of { Of t.now x.chunk x }
-    requires count_in_bounds { (x.first + x.count ≤ length heights.old) × (x.first + x.count ≤ length blinds.old) × Long slots.old places.old × (start ≤ end) × (end ≤ x.count) × (floor ≤ 64) × (height ≤ 64) }
+    requires inside { (x.first + x.count ≤ length heights.old) × (x.first + x.count ≤ length blinds.old) × Long slots.old places.old × (start ≤ end) × (end ≤ x.count) × (floor ≤ 64) × (height ≤ 64) }
     ensures { Long slots.new places.new × RanIs t.now x start end floor (at height slots.old places.old) (sheets_of heights.old blinds.old) result (at result.height slots.new places.new) (sheets_of heights.new blinds.new) }
 {
     let first = x.first;
@@ -146,7 +146,7 @@ pub fn step(
     height: usize,
 ) -> Ran
     requires of { Of t.now x.chunk x }
-    requires count_in_bounds { (x.first + x.count ≤ length heights.old) × (x.first + x.count ≤ length blinds.old) × Long slots.old places.old × (start ≤ end) × (end ≤ x.count) × (floor ≤ 64) × (height ≤ 64) }
+    requires inside { (x.first + x.count ≤ length heights.old) × (x.first + x.count ≤ length blinds.old) × Long slots.old places.old × (start ≤ end) × (end ≤ x.count) × (floor ≤ 64) × (height ≤ 64) }
     ensures { Long slots.new places.new × RanIs t.now x start end floor (at height slots.old places.old) (sheets_of heights.old blinds.old) result (at result.height slots.new places.new) (sheets_of heights.new blinds.new) }
 {
     let mut s = State {

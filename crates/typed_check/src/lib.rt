@@ -55,7 +55,7 @@ fn test_module(t: &[u64], heights: usize, blinds: usize) -> Finding
 // All tests and the walk of a module that was read, over sheets of zeros. What a refused walk leaves in them is not said.
 fn check_module(t: &[u64], heights: &mut [u8], blinds: &mut [u8]) -> Finding
     requires stands_in { StandsIn t.now }
-    requires heights_value { (heights.old ≡ replicate (length heights.old) 0) × (blinds.old ≡ replicate (length blinds.old) 0) }
+    requires cleared { (heights.old ≡ replicate (length heights.old) 0) × (blinds.old ≡ replicate (length blinds.old) 0) }
     ensures { pass (found result) (sheets_of heights.new blinds.new) ≡ check_module (length heights.old) (length blinds.old) (module_of t.now) }
 {
     let tested = test_module(t, heights.len(), blinds.len());
@@ -95,7 +95,7 @@ pub fn check_into(
     heights: &mut [u8],
     blinds: &mut [u8],
 ) -> Answer
-    ensures blinds_after { checked_of result heights.new blinds.new ≡ check listing.now (length heights.old) (length blinds.old) }
+    ensures equal { checked_of result heights.new blinds.new ≡ check listing.now (length heights.old) (length blinds.old) }
     ensures sound { Sound (answer_of result) listing.now heights.new blinds.new × Tabled result listing.now t.new }
 {
     let r = listing::read(listing, t);
@@ -117,7 +117,7 @@ pub fn check_into(
 
 // The check of any bytes, with any two sheets.
 pub fn typed_check(listing: &[u8], heights: &mut [u8], blinds: &mut [u8]) -> Answer
-    ensures blinds_after { checked_of result heights.new blinds.new ≡ check listing.now (length heights.old) (length blinds.old) }
+    ensures equal { checked_of result heights.new blinds.new ≡ check listing.now (length heights.old) (length blinds.old) }
     ensures sound { Sound (answer_of result) listing.now heights.new blinds.new }
 {
     let mut tables = [0u64; 22232];

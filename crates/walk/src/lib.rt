@@ -119,7 +119,7 @@ fn block_at(
 ) -> Onward
     requires ready { Ready t.now heights.old blinds.old x ip end floor height b.height }
     requires long { Long slots.old places.old × Long broken.old held.old }
-    requires ip_lt_end { (ip < end) × (code < 75) × (straight code ≡ false) × (control (instr_in t.now x ip) ≡ leads code target) }
+    requires inside { (ip < end) × (code < 75) × (straight code ≡ false) × (control (instr_in t.now x ip) ≡ leads code target) }
     ensures { Long slots.new places.new × Long broken.new held.new × (rest_of (chunk_in t.now x) x.locals end floor (onward_in result slots.new places.new broken.new held.new) (sheets_of heights.new blinds.new) ≡ visit_in t.now x ip end floor (at height slots.old places.old) (breaks_in b broken.old held.old) (sheets_of heights.old blinds.old) (leads code target)) × Goes ip end result }
 {
     match code {
@@ -164,7 +164,7 @@ fn if_at(
 ) -> Onward
     requires ready { Ready t.now heights.old blinds.old x ip end floor height b.height }
     requires long { Long slots.old places.old × Long broken.old held.old }
-    requires ip_lt_end { (ip < end) × (control (instr_in t.now x ip) ≡ if_to target) }
+    requires inside { (ip < end) × (control (instr_in t.now x ip) ≡ if_to target) }
     ensures { Long slots.new places.new × Long broken.new held.new × (rest_of (chunk_in t.now x) x.locals end floor (onward_in result slots.new places.new broken.new held.new) (sheets_of heights.new blinds.new) ≡ visit_in t.now x ip end floor (at height slots.old places.old) (breaks_in b broken.old held.old) (sheets_of heights.old blinds.old) (if_to target)) × Goes ip end result }
 {
     let v = blocks::guard_at(heights, x, 1, ip, floor, height);
@@ -233,7 +233,7 @@ fn one_arm(
 ) -> Onward
     requires ready { Ready t.now heights.old blinds.old x ip end floor height b.height }
     requires long { Long slots.old places.old × Long broken.old held.old }
-    requires ip_lt_end { (ip < end) × (control (instr_in t.now x ip) ≡ if_to target) × (none ≡ else_at (chunk_in t.now x) ip target) }
+    requires inside { (ip < end) × (control (instr_in t.now x ip) ≡ if_to target) × (none ≡ else_at (chunk_in t.now x) ip target) }
     ensures { Long slots.new places.new × Long broken.new held.new × (rest_of (chunk_in t.now x) x.locals end floor (onward_in result slots.new places.new broken.new held.new) (sheets_of heights.new blinds.new) ≡ arms_in t.now x target ip end floor (at height slots.old places.old) (breaks_in b broken.old held.old) (sheets_of heights.old blinds.old)) × Goes ip end result }
 {
     let locals = x.locals;
@@ -294,7 +294,7 @@ fn two_arms(
 ) -> Onward
     requires ready { Ready t.now heights.old blinds.old x ip end floor height b.height }
     requires long { Long slots.old places.old × Long broken.old held.old }
-    requires ip_lt_end { (ip < end) × (control (instr_in t.now x ip) ≡ if_to target) × (some closer ≡ else_at (chunk_in t.now x) ip target) }
+    requires inside { (ip < end) × (control (instr_in t.now x ip) ≡ if_to target) × (some closer ≡ else_at (chunk_in t.now x) ip target) }
     ensures { Long slots.new places.new × Long broken.new held.new × (rest_of (chunk_in t.now x) x.locals end floor (onward_in result slots.new places.new broken.new held.new) (sheets_of heights.new blinds.new) ≡ arms_in t.now x target ip end floor (at height slots.old places.old) (breaks_in b broken.old held.old) (sheets_of heights.old blinds.old)) × Goes ip end result }
 {
     let locals = x.locals;
@@ -376,7 +376,7 @@ fn loop_at(
 ) -> Onward
     requires ready { Ready t.now heights.old blinds.old x ip end floor height b.height }
     requires long { Long slots.old places.old × Long broken.old held.old }
-    requires ip_lt_end { (ip < end) × (control (instr_in t.now x ip) ≡ loop_to target) }
+    requires inside { (ip < end) × (control (instr_in t.now x ip) ≡ loop_to target) }
     ensures { Long slots.new places.new × Long broken.new held.new × (rest_of (chunk_in t.now x) x.locals end floor (onward_in result slots.new places.new broken.new held.new) (sheets_of heights.new blinds.new) ≡ visit_in t.now x ip end floor (at height slots.old places.old) (breaks_in b broken.old held.old) (sheets_of heights.old blinds.old) (loop_to target)) × Goes ip end result }
 {
     let first = x.first;
@@ -406,7 +406,7 @@ fn passes_at(
 ) -> Left
     requires placed { Placed t.now heights.old blinds.old x }
     requires long { Long slots.old places.old × Long broken.old held.old }
-    requires ip_bound { (ip + 1 < exit) × (exit ≤ x.count) × (height ≤ 64) × (control (instr_in t.now x ip) ≡ loop_to exit) }
+    requires inside { (ip + 1 < exit) × (exit ≤ x.count) × (height ≤ 64) × (control (instr_in t.now x ip) ≡ loop_to exit) }
     ensures { Long slots.new places.new × Long broken.new held.new × (left_of x.locals (left_in result slots.new places.new) (sheets_of heights.new blinds.new) ≡ loop_of (chunk_in t.now x) ip exit (state_of x.locals (at height slots.old places.old)) (sheets_of heights.old blinds.old)) × (result.height ≤ 64) }
 {
     let locals = x.locals;
@@ -480,7 +480,7 @@ pub fn last_pass(
 ) -> Left
     requires placed { Placed t.now heights.old blinds.old x }
     requires long { Long slots.old places.old × Long broken.old held.old × Long head.old texts.old }
-    requires ip_bound { (ip + 1 < exit) × (exit ≤ x.count) × (floor ≤ 64) × (height ≤ 64) × (control (instr_in t.now x ip) ≡ loop_to exit) }
+    requires inside { (ip + 1 < exit) × (exit ≤ x.count) × (floor ≤ 64) × (height ≤ 64) × (control (instr_in t.now x ip) ≡ loop_to exit) }
     ensures { Long slots.new places.new × Long broken.new held.new × Long head.new texts.new × (left_of x.locals (left_in result slots.new places.new) (sheets_of heights.new blinds.new) ≡ last_in t.now x ip exit floor (at height head.old texts.old) (sheets_of heights.old blinds.old)) × (result.height ≤ 64) }
 {
     let locals = x.locals;

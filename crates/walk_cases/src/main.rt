@@ -44,7 +44,7 @@ fn show_walk(
     n: usize,
 ) -> io::Result<()>
     requires roomy { Roomy t.now heights.old blinds.old 0 }
-    requires n_in_bounds { (n ≤ length heights.old) × (n ≤ length blinds.old) }
+    requires room { (n ≤ length heights.old) × (n ≤ length blinds.old) }
 {
     let o = walk::walk_chunk(t, heights, blinds, 0);
     let f = o.flow;
@@ -67,7 +67,7 @@ fn last_pass(
     exit: usize,
 ) -> Leaving
     requires placed { Placed t.now heights.old blinds.old x }
-    requires ip_bound { (ip + 1 < exit) × (exit ≤ x.count) × (control (instr_in t.now x ip) ≡ loop_to exit) }
+    requires inside { (ip + 1 < exit) × (exit ≤ x.count) × (control (instr_in t.now x ip) ≡ loop_to exit) }
 {
     let mut slots = [0u64; 96];
     let mut places = [0u32; 1536];
@@ -106,7 +106,7 @@ fn show_last(
     ip: usize,
 ) -> io::Result<()>
     requires roomy { Roomy t.now heights.old blinds.old 0 }
-    requires n_in_bounds { (n ≤ length heights.old) × (n ≤ length blinds.old) }
+    requires room { (n ≤ length heights.old) × (n ≤ length blinds.old) }
 {
     let x = rules::context(t, 0);
     let first = x.first;

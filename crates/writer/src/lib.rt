@@ -536,7 +536,7 @@ fn put_module(forms: &[u8; 176], names: &[u64; 781], t: &[u64], out: &mut [u8]) 
 
 // Writes the module that the tables say as its listing, which is measured first, where the buffer has room for it; else, and where no listing gives it, the buffer is left as it is.
 pub fn write(t: &[u64; 22232], out: &mut [u8]) -> Written
-    ensures out_after { answer_written result out.new ≡ write_tables t.now out.old }
+    ensures equal { answer_written result out.new ≡ write_tables t.now out.old }
     ensures written_back { WrittenBack t.now out.old result out.new × ReadAgain t.now result out.new }
 {
     let forms = listing::line_formats();

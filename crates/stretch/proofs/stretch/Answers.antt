@@ -9,7 +9,7 @@ pub loop-ip-init : goal.loop-ip-init
 loop-ip-init c = (search rules, search rules, search rules, running_start _ _ _ _ _ _ _ (search rules) (search rules))
 
 pub instr_at-i-requires : goal.instr_at-i-requires
-instr_at-i-requires c = omega (arith, c.loop-ip-test.true, c.requires.count_in_bounds.4, c.requires.of.within)
+instr_at-i-requires c = omega (arith, c.loop-ip-test.true, c.requires.inside.4, c.requires.of.within)
 
 pub returns-else-is_straight : goal.returns-else-is_straight
 returns-else-is_straight c = (
@@ -29,7 +29,7 @@ examine-e-requires c = record {
       b_low = c.instr_at-i.ensures.b_low;
       c_low = c.instr_at-i.ensures.c_low;
     },
-    c.requires.count_in_bounds.5,
+    c.requires.inside.5,
     c.loop-ip.invariant.3.low,
   );
 }
@@ -43,19 +43,19 @@ returns-in_default c = (
 
 pub mark-requires : goal.mark-requires
 mark-requires c = (
-  omega (arith, c.loop-ip-test.true, c.requires.count_in_bounds.4, c.requires.count_in_bounds.0, c.loop-ip.invariant.0),
+  omega (arith, c.loop-ip-test.true, c.requires.inside.4, c.requires.inside.0, c.loop-ip.invariant.0),
   omega (
     arith,
     c.loop-ip-test.true,
-    c.requires.count_in_bounds.4,
-    c.requires.count_in_bounds.1,
+    c.requires.inside.4,
+    c.requires.inside.1,
     c.loop-ip.invariant.1,
   ),
   c.loop-ip.invariant.3.low,
 )
 
 pub overflow_add-ip : goal.overflow_add-ip
-overflow_add-ip c = omega (arith, c.loop-ip-test.true, c.requires.count_in_bounds.4, c.requires.of.within)
+overflow_add-ip c = omega (arith, c.loop-ip-test.true, c.requires.inside.4, c.requires.of.within)
 
 pub loop-ip-preserved : goal.loop-ip-preserved
 loop-ip-preserved c = (

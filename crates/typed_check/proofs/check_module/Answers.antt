@@ -11,4 +11,4 @@ walk_chunks-requires c = roomy c.args.t.now _ _ c.requires.stands_in c.test_modu
 
 pub returns : goal.returns
 returns c = tested_good c.args.t.now _ _ c.requires.stands_in c.test_module-tested.result c.in-Nothing.is c.test_module-tested.ensures c.walk_chunks.result _ _ c.of_walk.ensures
-    (c.walk_chunks.ensures ∙ zeros_by c.args.t.now _ _ c.requires.heights_value.0 c.requires.heights_value.1)
+    (c.walk_chunks.ensures ∙ zeros_by c.args.t.now _ _ c.requires.cleared.0 c.requires.cleared.1)

@@ -2,4 +2,4 @@
 use Rattle.typed_check.proofs.typed_check.Goals as goal
 
 pub returns : goal.returns
-returns c = record { blinds_after = c.check_into.ensures.blinds_after; sound = c.check_into.ensures.sound.0 }
+returns c = record { equal = c.check_into.ensures.equal; sound = c.check_into.ensures.sound.0 }

@@ -29,26 +29,26 @@ use Rattle.walk.proofs.+walkers.Goals as goal
 
 pub block_at-loop_at-requires : goal.block_at-loop_at-requires
 unfolding leads
-block_at-loop_at-requires t c = (omega (arith, c.requires.ip_lt_end.0), (c.requires.ready, (c.requires.long, (c.requires.ip_lt_end.0, c.requires.ip_lt_end.3 ∙ ap (λ (k : ℕ). leads k c.args.target) c.in-69.is))))
+block_at-loop_at-requires t c = (omega (arith, c.requires.inside.0), (c.requires.ready, (c.requires.long, (c.requires.inside.0, c.requires.inside.3 ∙ ap (λ (k : ℕ). leads k c.args.target) c.in-69.is))))
 
 pub block_at-if_at-requires : goal.block_at-if_at-requires
 unfolding leads
-block_at-if_at-requires t c = (omega (arith, c.requires.ip_lt_end.0), (c.requires.ready, (c.requires.long, (c.requires.ip_lt_end.0, c.requires.ip_lt_end.3 ∙ ap (λ (k : ℕ). leads k c.args.target) c.in-65.is))))
+block_at-if_at-requires t c = (omega (arith, c.requires.inside.0), (c.requires.ready, (c.requires.long, (c.requires.inside.0, c.requires.inside.3 ∙ ap (λ (k : ℕ). leads k c.args.target) c.in-65.is))))
 
 pub block_at-leaf_at-requires : goal.block_at-leaf_at-requires
 block_at-leaf_at-requires t c = record {
   placed = c.requires.ready.placed;
   long = c.requires.long;
-  ip_lt_count = (
-    Cycle.inside c.args.t.now c.args.heights.now c.args.blinds.now c.args.x c.args.ip c.args.end c.args.floor _ _ c.requires.ready c.requires.ip_lt_end.0,
+  inside = (
+    Cycle.inside c.args.t.now c.args.heights.now c.args.blinds.now c.args.x c.args.ip c.args.end c.args.floor _ _ c.requires.ready c.requires.inside.0,
     c.requires.ready.floor_low,
     c.requires.ready.height_low,
     c.requires.ready.breaks_low,
-    c.requires.ip_lt_end.1,
-    c.requires.ip_lt_end.2,
+    c.requires.inside.1,
+    c.requires.inside.2,
     c.in_default.in_default-own.rest.1,
     c.in_default.in_default-own.rest.0.1,
-    c.requires.ip_lt_end.3,
+    c.requires.inside.3,
   );
 }
 
@@ -82,7 +82,7 @@ block_at-returns-in_default t c = (
     omega (
       arith,
       c.leaf_at.ensures.2.0,
-      c.requires.ip_lt_end.0,
+      c.requires.inside.0,
     ),
     c.leaf_at.ensures.2.1,
   ),
@@ -92,25 +92,25 @@ pub if_at-guard_at-v-requires : goal.if_at-guard_at-v-requires
 if_at-guard_at-v-requires t c = (
   c.requires.ready.placed.heights_long,
   c.requires.ready.placed.of.within,
-  Cycle.inside c.args.t.now c.args.heights.now c.args.blinds.now c.args.x c.args.ip c.args.end c.args.floor _ _ c.requires.ready c.requires.ip_lt_end.0,
+  Cycle.inside c.args.t.now c.args.heights.now c.args.blinds.now c.args.x c.args.ip c.args.end c.args.floor _ _ c.requires.ready c.requires.inside.0,
   c.requires.ready.floor_low,
   c.requires.ready.height_low,
   omega arith,
 )
 
 pub if_at-refused_at-requires : goal.if_at-refused_at-requires
-if_at-refused_at-requires t c = omega (arith, Cycle.inside c.args.t.now c.args.heights.now c.args.blinds.now c.args.x c.args.ip c.args.end c.args.floor _ _ c.requires.ready c.requires.ip_lt_end.0, c.requires.ready.placed.of.within)
+if_at-refused_at-requires t c = omega (arith, Cycle.inside c.args.t.now c.args.heights.now c.args.blinds.now c.args.x c.args.ip c.args.end c.args.floor _ _ c.requires.ready c.requires.inside.0, c.requires.ready.placed.of.within)
 
 pub if_at-returns-in_default : goal.if_at-returns-in_default
 if_at-returns-in_default t c = (
   c.requires.long.0,
   c.requires.long.1,
-  sym (Steps.visit_refused c.args.t.now c.args.x c.args.ip c.args.floor (at c.args.height c.args.slots.now c.args.places.now) (breaks_in c.args.b c.args.broken.now c.args.held.now) _ (Guards.guarded_step c.guard_at-v.result 1 (at c.args.height c.args.slots.now c.args.places.now)) (Guards.guard_examined c.args.t.now c.args.x c.args.ip c.args.floor (at c.args.height c.args.slots.now c.args.places.now) 1 _ _ c.guard_at-v.result c.guard_at-v.ensures c.requires.ip_lt_end.1 tt (Guards.one_needed (Visits.chunk_in c.args.t.now c.args.x) (Visits.instr_in c.args.t.now c.args.x c.args.ip) c.requires.ip_lt_end.1 refl tt) c.requires.ready.height_low) (if_to c.args.target)
+  sym (Steps.visit_refused c.args.t.now c.args.x c.args.ip c.args.floor (at c.args.height c.args.slots.now c.args.places.now) (breaks_in c.args.b c.args.broken.now c.args.held.now) _ (Guards.guarded_step c.guard_at-v.result 1 (at c.args.height c.args.slots.now c.args.places.now)) (Guards.guard_examined c.args.t.now c.args.x c.args.ip c.args.floor (at c.args.height c.args.slots.now c.args.places.now) 1 _ _ c.guard_at-v.result c.guard_at-v.ensures c.requires.inside.1 tt (Guards.one_needed (Visits.chunk_in c.args.t.now c.args.x) (Visits.instr_in c.args.t.now c.args.x c.args.ip) c.requires.inside.1 refl tt) c.requires.ready.height_low) (if_to c.args.target)
       tt (sym (passed_no _ c.in_default.is)) c.args.end (onward_in c.refused_at.result c.args.slots.now c.args.places.now c.args.broken.now c.args.held.now) _
       c.refused_at.ensures.1),
   (
     omega (arith, c.refused_at.ensures.0),
-    omega (arith, c.refused_at.ensures.0, c.requires.ip_lt_end.0),
+    omega (arith, c.refused_at.ensures.0, c.requires.inside.0),
     (
       subst (λ (z : ℕ). z ≤ 64) (sym
           c.refused_at.ensures.2) c.requires.ready.height_low,
@@ -120,7 +120,7 @@ if_at-returns-in_default t c = (
 )
 
 pub if_at-layout_of-l-requires : goal.if_at-layout_of-l-requires
-if_at-layout_of-l-requires t c = (c.requires.ready.placed.of.first, c.requires.ready.placed.of.count, c.requires.ready.placed.of.within, Cycle.inside c.args.t.now c.args.heights.now c.args.blinds.now c.args.x c.args.ip c.args.end c.args.floor _ _ c.requires.ready c.requires.ip_lt_end.0)
+if_at-layout_of-l-requires t c = (c.requires.ready.placed.of.first, c.requires.ready.placed.of.count, c.requires.ready.placed.of.within, Cycle.inside c.args.t.now c.args.heights.now c.args.blinds.now c.args.x c.args.ip c.args.end c.args.floor _ _ c.requires.ready c.requires.inside.0)
 
 pub if_at-overflow_sub-height : goal.if_at-overflow_sub-height
 if_at-overflow_sub-height t c = c.guard_at-v.ensures.room (is_none_eq _ (sym (passed_yes _ c.in-Passed.is)))
@@ -128,7 +128,7 @@ if_at-overflow_sub-height t c = c.guard_at-v.ensures.room (is_none_eq _ (sym (pa
 pub if_at-one_arm-requires : goal.if_at-one_arm-requires
 unfolding Outcomes.layout_else
 if_at-one_arm-requires t c = (
-  omega (arith, c.requires.ip_lt_end.0),
+  omega (arith, c.requires.inside.0),
   (
     record {
       placed = Cycle.placed_by c.args.t.now c.args.heights.now c.args.blinds.now _ c.args.blinds.now c.args.x c.guard_at-v.auto.heights refl c.requires.ready.placed;
@@ -141,7 +141,7 @@ if_at-one_arm-requires t c = (
       height_low = omega (arith, c.requires.ready.height_low);
       breaks_low = c.requires.ready.breaks_low;
     },
-    (c.requires.long, (c.requires.ip_lt_end.0, c.requires.ip_lt_end.1, (ap Outcomes.layout_else (sym c.in-OneArm.is) ∙ c.layout_of-l.ensures))),
+    (c.requires.long, (c.requires.inside.0, c.requires.inside.1, (ap Outcomes.layout_else (sym c.in-OneArm.is) ∙ c.layout_of-l.ensures))),
   ),
 )
 
@@ -151,7 +151,7 @@ if_at-overflow_sub-height-in-TwoArms t c = c.guard_at-v.ensures.room (is_none_eq
 pub if_at-two_arms-requires : goal.if_at-two_arms-requires
 unfolding Outcomes.layout_else
 if_at-two_arms-requires t c = (
-  omega (arith, c.requires.ip_lt_end.0),
+  omega (arith, c.requires.inside.0),
   (
     record {
       placed = Cycle.placed_by c.args.t.now c.args.heights.now c.args.blinds.now _ c.args.blinds.now c.args.x c.guard_at-v.auto.heights refl c.requires.ready.placed;
@@ -164,7 +164,7 @@ if_at-two_arms-requires t c = (
       height_low = omega (arith, c.requires.ready.height_low);
       breaks_low = c.requires.ready.breaks_low;
     },
-    (c.requires.long, (c.requires.ip_lt_end.0, c.requires.ip_lt_end.1, (ap Outcomes.layout_else (sym c.in-TwoArms.is) ∙ c.layout_of-l.ensures))),
+    (c.requires.long, (c.requires.inside.0, c.requires.inside.1, (ap Outcomes.layout_else (sym c.in-TwoArms.is) ∙ c.layout_of-l.ensures))),
   ),
 )
 
@@ -173,7 +173,7 @@ if_at-returns-in-OneArm t c = (
   c.one_arm.ensures.0,
   c.one_arm.ensures.1,
   Cycle.if_passed c.args.t.now c.args.x c.args.target c.args.ip c.args.end c.args.floor (at c.args.height c.args.slots.now c.args.places.now) (breaks_in c.args.b c.args.broken.now c.args.held.now) c.args.heights.now c.args.blinds.now _ _ (Guards.guarded_step
-      c.guard_at-v.result 1 (at c.args.height c.args.slots.now c.args.places.now)) (Guards.guard_examined c.args.t.now c.args.x c.args.ip c.args.floor (at c.args.height c.args.slots.now c.args.places.now) 1 _ _ c.guard_at-v.result c.guard_at-v.ensures c.requires.ip_lt_end.1 tt (Guards.one_needed (Visits.chunk_in c.args.t.now c.args.x) (Visits.instr_in c.args.t.now c.args.x c.args.ip) c.requires.ip_lt_end.1 refl tt) c.requires.ready.height_low) (sym (passed_yes _ c.in-Passed.is)) (Guards.guard_marked c.args.t.now c.args.x c.args.ip c.args.floor (at c.args.height c.args.slots.now c.args.places.now) 1 _ _ c.guard_at-v.result c.guard_at-v.ensures c.requires.ip_lt_end.1 tt (Guards.one_needed (Visits.chunk_in c.args.t.now c.args.x) (Visits.instr_in c.args.t.now c.args.x c.args.ip) c.requires.ip_lt_end.1 refl tt) c.requires.ready.height_low c.args.blinds.now c.requires.ready.placed.of.first) (onward_in c.one_arm.result c.one_arm.new.slots
+      c.guard_at-v.result 1 (at c.args.height c.args.slots.now c.args.places.now)) (Guards.guard_examined c.args.t.now c.args.x c.args.ip c.args.floor (at c.args.height c.args.slots.now c.args.places.now) 1 _ _ c.guard_at-v.result c.guard_at-v.ensures c.requires.inside.1 tt (Guards.one_needed (Visits.chunk_in c.args.t.now c.args.x) (Visits.instr_in c.args.t.now c.args.x c.args.ip) c.requires.inside.1 refl tt) c.requires.ready.height_low) (sym (passed_yes _ c.in-Passed.is)) (Guards.guard_marked c.args.t.now c.args.x c.args.ip c.args.floor (at c.args.height c.args.slots.now c.args.places.now) 1 _ _ c.guard_at-v.result c.guard_at-v.ensures c.requires.inside.1 tt (Guards.one_needed (Visits.chunk_in c.args.t.now c.args.x) (Visits.instr_in c.args.t.now c.args.x c.args.ip) c.requires.inside.1 refl tt) c.requires.ready.height_low c.args.blinds.now c.requires.ready.placed.of.first) (onward_in c.one_arm.result c.one_arm.new.slots
       c.one_arm.new.places c.one_arm.new.broken c.one_arm.new.held) _ c.one_arm.ensures.2,
   c.one_arm.ensures.3,
 )
@@ -183,7 +183,7 @@ if_at-returns-in-TwoArms t c = (
   c.two_arms.ensures.0,
   c.two_arms.ensures.1,
   Cycle.if_passed c.args.t.now c.args.x c.args.target c.args.ip c.args.end c.args.floor (at c.args.height c.args.slots.now c.args.places.now) (breaks_in c.args.b c.args.broken.now c.args.held.now) c.args.heights.now c.args.blinds.now _ _ (Guards.guarded_step
-      c.guard_at-v.result 1 (at c.args.height c.args.slots.now c.args.places.now)) (Guards.guard_examined c.args.t.now c.args.x c.args.ip c.args.floor (at c.args.height c.args.slots.now c.args.places.now) 1 _ _ c.guard_at-v.result c.guard_at-v.ensures c.requires.ip_lt_end.1 tt (Guards.one_needed (Visits.chunk_in c.args.t.now c.args.x) (Visits.instr_in c.args.t.now c.args.x c.args.ip) c.requires.ip_lt_end.1 refl tt) c.requires.ready.height_low) (sym (passed_yes _ c.in-Passed.is)) (Guards.guard_marked c.args.t.now c.args.x c.args.ip c.args.floor (at c.args.height c.args.slots.now c.args.places.now) 1 _ _ c.guard_at-v.result c.guard_at-v.ensures c.requires.ip_lt_end.1 tt (Guards.one_needed (Visits.chunk_in c.args.t.now c.args.x) (Visits.instr_in c.args.t.now c.args.x c.args.ip) c.requires.ip_lt_end.1 refl tt) c.requires.ready.height_low c.args.blinds.now c.requires.ready.placed.of.first) (onward_in c.two_arms.result c.two_arms.new.slots
+      c.guard_at-v.result 1 (at c.args.height c.args.slots.now c.args.places.now)) (Guards.guard_examined c.args.t.now c.args.x c.args.ip c.args.floor (at c.args.height c.args.slots.now c.args.places.now) 1 _ _ c.guard_at-v.result c.guard_at-v.ensures c.requires.inside.1 tt (Guards.one_needed (Visits.chunk_in c.args.t.now c.args.x) (Visits.instr_in c.args.t.now c.args.x c.args.ip) c.requires.inside.1 refl tt) c.requires.ready.height_low) (sym (passed_yes _ c.in-Passed.is)) (Guards.guard_marked c.args.t.now c.args.x c.args.ip c.args.floor (at c.args.height c.args.slots.now c.args.places.now) 1 _ _ c.guard_at-v.result c.guard_at-v.ensures c.requires.inside.1 tt (Guards.one_needed (Visits.chunk_in c.args.t.now c.args.x) (Visits.instr_in c.args.t.now c.args.x c.args.ip) c.requires.inside.1 refl tt) c.requires.ready.height_low c.args.blinds.now c.requires.ready.placed.of.first) (onward_in c.two_arms.result c.two_arms.new.slots
       c.two_arms.new.places c.two_arms.new.broken c.two_arms.new.held) _ c.two_arms.ensures.2,
   c.two_arms.ensures.3,
 )
@@ -208,7 +208,7 @@ interp_region-instr_at-i-requires t c = omega (
 pub interp_region-step-e-requires : goal.interp_region-step-e-requires
 interp_region-step-e-requires t c = record {
   of = c.loop-ip.invariant.2.ready.placed.of;
-  count_in_bounds = (
+  inside = (
     c.loop-ip.invariant.2.ready.placed.heights_long,
     c.loop-ip.invariant.2.ready.placed.blinds_long,
     c.loop-ip.invariant.0,
@@ -315,31 +315,31 @@ interp_region-returns t c = (
 )
 
 pub last_pass-overflow_add-body : goal.last_pass-overflow_add-body
-last_pass-overflow_add-body t c = omega (arith, c.requires.ip_bound.0, c.requires.ip_bound.1, c.ranges)
+last_pass-overflow_add-body t c = omega (arith, c.requires.inside.0, c.requires.inside.1, c.ranges)
 
 pub last_pass-overflow_sub-last : goal.last_pass-overflow_sub-last
-last_pass-overflow_sub-last t c = omega (arith, c.requires.ip_bound.0)
+last_pass-overflow_sub-last t c = omega (arith, c.requires.inside.0)
 
 pub last_pass-invalidate_written_locals-requires : goal.last_pass-invalidate_written_locals-requires
-last_pass-invalidate_written_locals-requires t c = record { long = c.requires.long.2; first_value = (c.requires.placed.of.first, c.requires.placed.of.count, c.requires.placed.of.within, omega (arith, c.requires.ip_bound.0, c.requires.ip_bound.1), omega (arith, c.requires.placed.of.locals, locals_low c.args.t.now c.args.x.chunk)) }
+last_pass-invalidate_written_locals-requires t c = record { long = c.requires.long.2; inside = (c.requires.placed.of.first, c.requires.placed.of.count, c.requires.placed.of.within, omega (arith, c.requires.inside.0, c.requires.inside.1), omega (arith, c.requires.placed.of.locals, locals_low c.args.t.now c.args.x.chunk)) }
 
 pub last_pass-copy-requires : goal.last_pass-copy-requires
-last_pass-copy-requires t c = (c.requires.long.0, c.invalidate_written_locals.ensures.0, c.requires.ip_bound.3, omega (arith, c.requires.placed.of.locals, locals_low c.args.t.now c.args.x.chunk))
+last_pass-copy-requires t c = (c.requires.long.0, c.invalidate_written_locals.ensures.0, c.requires.inside.3, omega (arith, c.requires.placed.of.locals, locals_low c.args.t.now c.args.x.chunk))
 
 pub last_pass-interp_region-o-requires : goal.last_pass-interp_region-o-requires
 last_pass-interp_region-o-requires t c = (
-  omega (arith, c.requires.ip_bound.0),
+  omega (arith, c.requires.inside.0),
   (
     record {
       placed = c.requires.placed;
       from = c.args.ip + 1;
       arm = Cycle.loop_arm_in c.args.t.now c.args.x c.args.ip c.args.exit
-          c.requires.placed.of.first c.requires.placed.of.count (omega (arith, c.requires.ip_bound.0, c.requires.ip_bound.1)) c.requires.ip_bound.4;
+          c.requires.placed.of.first c.requires.placed.of.count (omega (arith, c.requires.inside.0, c.requires.inside.1)) c.requires.inside.4;
       after = omega arith;
       before = omega
-          (arith, c.requires.ip_bound.0);
-      floor_low = c.requires.ip_bound.2;
-      height_low = c.requires.ip_bound.3;
+          (arith, c.requires.inside.0);
+      floor_low = c.requires.inside.2;
+      height_low = c.requires.inside.3;
       breaks_low = omega arith;
     },
     (
@@ -355,7 +355,7 @@ last_pass-last_end-requires t c = (
   c.invalidate_written_locals.ensures.0,
   c.interp_region-o.ensures.1,
   c.interp_region-o.ensures.3,
-  c.requires.ip_bound.3,
+  c.requires.inside.3,
   omega
       (arith, c.requires.placed.of.locals, locals_low c.args.t.now c.args.x.chunk),
 )
@@ -367,7 +367,7 @@ last_pass-returns t c = (
   c.invalidate_written_locals.ensures.0,
   Cycle.last_made c.args.t.now c.args.x c.args.ip c.args.exit c.args.floor (at c.args.height
       c.args.head.now c.args.texts.now) (at c.args.height c.invalidate_written_locals.new.slots c.invalidate_written_locals.new.places)
-      (c.invalidate_written_locals.ensures.1 c.args.height c.requires.ip_bound.3) (breaks_in (record { pending = Nothing; height = 0 }) c.args.broken.now
+      (c.invalidate_written_locals.ensures.1 c.args.height c.requires.inside.3) (breaks_in (record { pending = Nothing; height = 0 }) c.args.broken.now
       c.args.held.now) refl (outcome_in c.interp_region-o.result c.interp_region-o.new.slots c.interp_region-o.new.places c.interp_region-o.new.broken c.interp_region-o.new.held) _ _ (c.interp_region-o.ensures.2 ∙ ap (λ (z : AnyState). full (Visits.chunk_in c.args.t.now c.args.x) (c.args.ip + 1) (c.args.exit - 1) c.args.floor z
       (Outcomes.breaks_of c.args.x.locals (breaks_in (record { pending = Nothing; height = 0 }) c.args.broken.now c.args.held.now)) (sheets_of
       c.args.heights.now c.args.blinds.now)) c.copy.ensures.1) (left_in c.last_end.result c.last_end.new.slots c.last_end.new.places) (c.last_end.ensures.1 _),
@@ -375,13 +375,13 @@ last_pass-returns t c = (
 )
 
 pub loop_at-overflow_add-first : goal.loop_at-overflow_add-first
-loop_at-overflow_add-first t c = omega (arith, Cycle.inside c.args.t.now c.args.heights.now c.args.blinds.now c.args.x c.args.ip c.args.end c.args.floor _ _ c.requires.ready c.requires.ip_lt_end.0, c.requires.ready.placed.of.within)
+loop_at-overflow_add-first t c = omega (arith, Cycle.inside c.args.t.now c.args.heights.now c.args.blinds.now c.args.x c.args.ip c.args.end c.args.floor _ _ c.requires.ready c.requires.inside.0, c.requires.ready.placed.of.within)
 
 pub loop_at-mark_height-requires : goal.loop_at-mark_height-requires
-loop_at-mark_height-requires t c = (omega (arith, Cycle.inside c.args.t.now c.args.heights.now c.args.blinds.now c.args.x c.args.ip c.args.end c.args.floor _ _ c.requires.ready c.requires.ip_lt_end.0, c.requires.ready.placed.heights_long), c.requires.ready.height_low)
+loop_at-mark_height-requires t c = (omega (arith, Cycle.inside c.args.t.now c.args.heights.now c.args.blinds.now c.args.x c.args.ip c.args.end c.args.floor _ _ c.requires.ready c.requires.inside.0, c.requires.ready.placed.heights_long), c.requires.ready.height_low)
 
 pub loop_at-passes_at-l-requires : goal.loop_at-passes_at-l-requires
-loop_at-passes_at-l-requires t c = let q = Cycle.loop_in c.args.t.now c.args.heights.now c.args.blinds.now c.args.x c.args.target c.args.ip c.args.end c.args.floor _ _ c.requires.ready c.requires.ip_lt_end.0 c.requires.ip_lt_end.1 in (
+loop_at-passes_at-l-requires t c = let q = Cycle.loop_in c.args.t.now c.args.heights.now c.args.blinds.now c.args.x c.args.target c.args.ip c.args.end c.args.floor _ _ c.requires.ready c.requires.inside.0 c.requires.inside.1 in (
   omega (arith, q.0, q.1),
   (
     Cycle.placed_by c.args.t.now c.args.heights.now c.args.blinds.now _ c.args.blinds.now c.args.x c.mark_height.auto.heights refl c.requires.ready.placed,
@@ -395,7 +395,7 @@ loop_at-passes_at-l-requires t c = let q = Cycle.loop_in c.args.t.now c.args.hei
           Cycle.arm_in c.args.t.now c.args.x _ c.args.end c.requires.ready.placed.of.count c.requires.ready.placed.of.first c.requires.ready.placed.nested c.requires.ready.arm,
         ),
         c.requires.ready.height_low,
-        c.requires.ip_lt_end.1,
+        c.requires.inside.1,
       ),
     ),
   ),
@@ -407,10 +407,10 @@ loop_at-returns t c = (
   c.requires.long.1,
   c.onward_after.ensures.3 (Visits.chunk_in c.args.t.now c.args.x) c.args.x.locals c.args.end c.args.floor c.passes_at-l.new.slots
       c.passes_at-l.new.places c.args.broken.now c.args.held.now _ ∙ Cycle.loop_left c.args.t.now c.args.x c.args.target c.args.ip c.args.end c.args.floor (at c.args.height c.args.slots.now c.args.places.now) (breaks_in c.args.b c.args.broken.now c.args.held.now) c.args.heights.now
-      c.args.blinds.now _ c.requires.ready.placed.of.first c.requires.ip_lt_end.1 c.mark_height.ensures (left_in c.passes_at-l.result c.passes_at-l.new.slots
+      c.args.blinds.now _ c.requires.ready.placed.of.first c.requires.inside.1 c.mark_height.ensures (left_in c.passes_at-l.result c.passes_at-l.new.slots
       c.passes_at-l.new.places) _ c.passes_at-l.ensures.2,
-  (let q = Cycle.loop_in c.args.t.now c.args.heights.now c.args.blinds.now c.args.x c.args.target c.args.ip c.args.end c.args.floor _ _ c.requires.ready c.requires.ip_lt_end.0
-      c.requires.ip_lt_end.1 in (
+  (let q = Cycle.loop_in c.args.t.now c.args.heights.now c.args.blinds.now c.args.x c.args.target c.args.ip c.args.end c.args.floor _ _ c.requires.ready c.requires.inside.0
+      c.requires.inside.1 in (
         omega (arith, q.0, c.onward_after.ensures.0),
         omega (arith, q.1, c.onward_after.ensures.0),
         (
@@ -428,7 +428,7 @@ pub one_arm-copy-requires : goal.one_arm-copy-requires
 one_arm-copy-requires t c = (search rules, c.requires.long.0, c.requires.ready.height_low, omega (arith, c.requires.ready.placed.of.locals, locals_low c.args.t.now c.args.x.chunk))
 
 pub one_arm-interp_region-a-requires : goal.one_arm-interp_region-a-requires
-one_arm-interp_region-a-requires t c = let q = Cycle.one_arm_in c.args.t.now c.args.heights.now c.args.blinds.now c.args.x c.args.target c.args.ip c.args.end c.args.floor _ _ c.requires.ready c.requires.ip_lt_end.0 c.requires.ip_lt_end.1 c.requires.ip_lt_end.2 in (
+one_arm-interp_region-a-requires t c = let q = Cycle.one_arm_in c.args.t.now c.args.heights.now c.args.blinds.now c.args.x c.args.target c.args.ip c.args.end c.args.floor _ _ c.requires.ready c.requires.inside.0 c.requires.inside.1 c.requires.inside.2 in (
   omega (
     arith,
     q.0,
@@ -451,7 +451,7 @@ one_arm-interp_region-a-requires t c = let q = Cycle.one_arm_in c.args.t.now c.a
 )
 
 pub one_arm-overflow_add-result : goal.one_arm-overflow_add-result
-one_arm-overflow_add-result t c = let q = Cycle.one_arm_in c.args.t.now c.args.heights.now c.args.blinds.now c.args.x c.args.target c.args.ip c.args.end c.args.floor _ _ c.requires.ready c.requires.ip_lt_end.0 c.requires.ip_lt_end.1 c.requires.ip_lt_end.2 in omega (
+one_arm-overflow_add-result t c = let q = Cycle.one_arm_in c.args.t.now c.args.heights.now c.args.blinds.now c.args.x c.args.target c.args.ip c.args.end c.args.floor _ _ c.requires.ready c.requires.inside.0 c.requires.inside.1 c.requires.inside.2 in omega (
   arith,
   q.1,
   c.ranges,
@@ -461,10 +461,10 @@ pub one_arm-returns-in-Refused : goal.one_arm-returns-in-Refused
 one_arm-returns-in-Refused t c = (
   c.interp_region-a.ensures.0,
   c.interp_region-a.ensures.1,
-  Cycle.one_refused c.args.t.now c.args.x c.args.target c.args.ip c.args.end c.args.floor (at c.args.height c.args.slots.now c.args.places.now) (breaks_in c.args.b c.args.broken.now c.args.held.now) _ _ (outcome_in c.interp_region-a.result c.interp_region-a.new.slots c.interp_region-a.new.places c.interp_region-a.new.broken c.interp_region-a.new.held) c.requires.ip_lt_end.2
+  Cycle.one_refused c.args.t.now c.args.x c.args.target c.args.ip c.args.end c.args.floor (at c.args.height c.args.slots.now c.args.places.now) (breaks_in c.args.b c.args.broken.now c.args.held.now) _ _ (outcome_in c.interp_region-a.result c.interp_region-a.new.slots c.interp_region-a.new.places c.interp_region-a.new.broken c.interp_region-a.new.held) c.requires.inside.2
       c.interp_region-a.ensures.2 (c.args.target + 1) c.in-Refused.is,
   (let q = Cycle.one_arm_in c.args.t.now c.args.heights.now c.args.blinds.now c.args.x c.args.target c.args.ip c.args.end c.args.floor _ _ c.requires.ready
-      c.requires.ip_lt_end.0 c.requires.ip_lt_end.1 c.requires.ip_lt_end.2 in (omega (arith, q.0), omega (arith, q.1), c.interp_region-a.ensures.3)),
+      c.requires.inside.0 c.requires.inside.1 c.requires.inside.2 in (omega (arith, q.0), omega (arith, q.1), c.interp_region-a.ensures.3)),
 )
 
 pub one_arm-join_ends-m-requires : goal.one_arm-join_ends-m-requires
@@ -484,7 +484,7 @@ one_arm-join_ends-m-requires t c = (
 )
 
 pub one_arm-overflow_add-result-2 : goal.one_arm-overflow_add-result-2
-one_arm-overflow_add-result-2 t c = let q = Cycle.one_arm_in c.args.t.now c.args.heights.now c.args.blinds.now c.args.x c.args.target c.args.ip c.args.end c.args.floor _ _ c.requires.ready c.requires.ip_lt_end.0 c.requires.ip_lt_end.1 c.requires.ip_lt_end.2 in omega (
+one_arm-overflow_add-result-2 t c = let q = Cycle.one_arm_in c.args.t.now c.args.heights.now c.args.blinds.now c.args.x c.args.target c.args.ip c.args.end c.args.floor _ _ c.requires.ready c.requires.inside.0 c.requires.inside.1 c.requires.inside.2 in omega (
   arith,
   q.1,
   c.ranges,
@@ -495,24 +495,24 @@ unfolding Outcomes.fall_of
 one_arm-returns t c = (
   c.join_ends-m.ensures.0,
   c.interp_region-a.ensures.1,
-  Cycle.one_joined c.args.t.now c.args.x c.args.target c.args.ip c.args.end c.args.floor (at c.args.height c.args.slots.now c.args.places.now) (breaks_in c.args.b c.args.broken.now c.args.held.now) _ _ (outcome_in c.interp_region-a.result c.interp_region-a.new.slots c.interp_region-a.new.places c.interp_region-a.new.broken c.interp_region-a.new.held) c.requires.ip_lt_end.2
+  Cycle.one_joined c.args.t.now c.args.x c.args.target c.args.ip c.args.end c.args.floor (at c.args.height c.args.slots.now c.args.places.now) (breaks_in c.args.b c.args.broken.now c.args.held.now) _ _ (outcome_in c.interp_region-a.result c.interp_region-a.new.slots c.interp_region-a.new.places c.interp_region-a.new.broken c.interp_region-a.new.held) c.requires.inside.2
       c.interp_region-a.ensures.2 (Laws.open_by c.interp_region-a.result.flow (opened c.in_default.in_default-own.keys2)) (outcome_in c.join_ends-m.result c.join_ends-m.new.slots
       c.join_ends-m.new.places c.interp_region-a.new.broken c.interp_region-a.new.held) (c.join_ends-m.ensures.1 c.interp_region-a.new.broken c.interp_region-a.new.held _ ∙ ap (λ (z : AnyState). Outcomes.meets c.args.ip
       (Outcomes.fall_of c.args.x.locals (at c.interp_region-a.result.height c.interp_region-a.new.slots c.interp_region-a.new.places) c.interp_region-a.result.flow) (some z)
       (Outcomes.breaks_of c.args.x.locals (breaks_in c.interp_region-a.result.breaks c.interp_region-a.new.broken c.interp_region-a.new.held)) (sheets_of c.interp_region-a.new.heights
       c.interp_region-a.new.blinds)) c.copy.ensures.1),
-  (let q = Cycle.one_arm_in c.args.t.now c.args.heights.now c.args.blinds.now c.args.x c.args.target c.args.ip c.args.end c.args.floor _ _ c.requires.ready c.requires.ip_lt_end.0
-      c.requires.ip_lt_end.1 c.requires.ip_lt_end.2 in (omega (arith, q.0), omega (arith, q.1), c.join_ends-m.ensures.2)),
+  (let q = Cycle.one_arm_in c.args.t.now c.args.heights.now c.args.blinds.now c.args.x c.args.target c.args.ip c.args.end c.args.floor _ _ c.requires.ready c.requires.inside.0
+      c.requires.inside.1 c.requires.inside.2 in (omega (arith, q.0), omega (arith, q.1), c.join_ends-m.ensures.2)),
 )
 
 pub passes_at-copy-requires : goal.passes_at-copy-requires
-passes_at-copy-requires t c = (search rules, c.requires.long.0, c.requires.ip_bound.2, omega (arith, c.requires.placed.of.locals, locals_low c.args.t.now c.args.x.chunk))
+passes_at-copy-requires t c = (search rules, c.requires.long.0, c.requires.inside.2, omega (arith, c.requires.placed.of.locals, locals_low c.args.t.now c.args.x.chunk))
 
 pub passes_at-overflow_add-body : goal.passes_at-overflow_add-body
-passes_at-overflow_add-body t c = omega (arith, c.requires.ip_bound.0, c.requires.ip_bound.1, c.ranges)
+passes_at-overflow_add-body t c = omega (arith, c.requires.inside.0, c.requires.inside.1, c.ranges)
 
 pub passes_at-overflow_sub-last : goal.passes_at-overflow_sub-last
-passes_at-overflow_sub-last t c = omega (arith, c.requires.ip_bound.0)
+passes_at-overflow_sub-last t c = omega (arith, c.requires.inside.0)
 
 pub passes_at-overflow_add-left : goal.passes_at-overflow_add-left
 passes_at-overflow_add-left t c = omega (arith, c.requires.placed.of.locals, locals_low c.args.t.now c.args.x.chunk)
@@ -529,19 +529,19 @@ passes_at-passes-init t c = (
 
 pub passes_at-interp_region-o-requires : goal.passes_at-interp_region-o-requires
 passes_at-interp_region-o-requires t c = (
-  omega (arith, c.requires.ip_bound.0),
+  omega (arith, c.requires.inside.0),
   (
     record {
       placed = Cycle.placed_by c.args.t.now c.args.heights.now c.args.blinds.now c.passes.heights c.passes.blinds c.args.x
           c.passes.invariant.4.heights_same c.passes.invariant.4.blinds_same c.requires.placed;
       from = c.args.ip + 1;
       arm = Cycle.loop_arm_in c.args.t.now c.args.x c.args.ip c.args.exit
-          c.requires.placed.of.first c.requires.placed.of.count (omega (arith, c.requires.ip_bound.0, c.requires.ip_bound.1)) c.requires.ip_bound.3;
+          c.requires.placed.of.first c.requires.placed.of.count (omega (arith, c.requires.inside.0, c.requires.inside.1)) c.requires.inside.3;
       after = omega arith;
       before = omega
-          (arith, c.requires.ip_bound.0);
-      floor_low = c.requires.ip_bound.2;
-      height_low = c.requires.ip_bound.2;
+          (arith, c.requires.inside.0);
+      floor_low = c.requires.inside.2;
+      height_low = c.requires.inside.2;
       breaks_low = omega arith;
     },
     (
@@ -552,7 +552,7 @@ passes_at-interp_region-o-requires t c = (
 )
 
 pub passes_at-leave_head-done-requires : goal.passes_at-leave_head-done-requires
-passes_at-leave_head-done-requires t c = (c.interp_region-o.ensures.0, c.passes.invariant.2, c.interp_region-o.ensures.1, c.requires.ip_bound.2, c.interp_region-o.ensures.3.1, omega (arith, c.requires.placed.of.locals, locals_low c.args.t.now c.args.x.chunk))
+passes_at-leave_head-done-requires t c = (c.interp_region-o.ensures.0, c.passes.invariant.2, c.interp_region-o.ensures.1, c.requires.inside.2, c.interp_region-o.ensures.3.1, omega (arith, c.requires.placed.of.locals, locals_low c.args.t.now c.args.x.chunk))
 
 pub passes_at-returns-in-Refused : goal.passes_at-returns-in-Refused
 unfolding Outcomes.leaving_of
@@ -563,7 +563,7 @@ passes_at-returns-in-Refused t c = (
       (at c.args.height c.passes.head c.passes.texts) c.passes.left c.passes.invariant.4 (outcome_in c.interp_region-o.result c.interp_region-o.new.slots c.interp_region-o.new.places c.interp_region-o.new.broken c.interp_region-o.new.held) _ _ (breaks_in (record { pending = Nothing; height = 0 }) c.passes.broken c.passes.held) refl (c.interp_region-o.ensures.2 ∙ ap (λ (z :
       AnyState). full (Visits.chunk_in c.args.t.now c.args.x) (c.args.ip + 1) (c.args.exit - 1) c.args.height z (Outcomes.breaks_of c.args.x.locals (breaks_in (record { pending = Nothing; height = 0 }) c.passes.broken c.passes.held)) (sheets_of c.passes.heights
       c.passes.blinds)) c.passes.invariant.3) c.in-Refused.is,
-  c.requires.ip_bound.2,
+  c.requires.inside.2,
 )
 
 pub passes_at-same_stack-requires : goal.passes_at-same_stack-requires
@@ -578,7 +578,7 @@ passes_at-returns-else-same_stack t c = (
       _ _ (breaks_in (record { pending = Nothing; height = 0 }) c.passes.broken c.passes.held) refl (c.interp_region-o.ensures.2 ∙ ap (λ (z : AnyState). full (Visits.chunk_in c.args.t.now c.args.x) (c.args.ip + 1) (c.args.exit - 1) c.args.height z (Outcomes.breaks_of
       c.args.x.locals (breaks_in (record { pending = Nothing; height = 0 }) c.passes.broken c.passes.held)) (sheets_of c.passes.heights c.passes.blinds)) c.passes.invariant.3) c.in-Falls.is (sym
       c.same_stack.ensures ∙ c.if-same_stack.false),
-  subst (λ (z : ℕ). z ≤ 64) (sym c.not_neutral.ensures.1) c.requires.ip_bound.2,
+  subst (λ (z : ℕ). z ≤ 64) (sym c.not_neutral.ensures.1) c.requires.inside.2,
 )
 
 pub passes_at-covers_locals-requires : goal.passes_at-covers_locals-requires
@@ -589,13 +589,13 @@ passes_at-leave_loop-done-requires t c = (c.interp_region-o.ensures.0, c.interp_
 
 pub passes_at-last_pass-done-requires : goal.passes_at-last_pass-done-requires
 passes_at-last_pass-done-requires t c = (
-  omega (arith, c.requires.ip_bound.0),
+  omega (arith, c.requires.inside.0),
   (
     Cycle.placed_by c.args.t.now c.args.heights.now c.args.blinds.now _ _ c.args.x (c.interp_region-o.auto.heights ∙ c.passes.invariant.4.heights_same)
         (c.interp_region-o.auto.blinds ∙ c.passes.invariant.4.blinds_same) c.requires.placed,
     (
       (c.interp_region-o.ensures.0, c.interp_region-o.ensures.1, c.passes.invariant.2),
-      (c.requires.ip_bound.0, c.requires.ip_bound.1, c.requires.ip_bound.2, c.requires.ip_bound.2, c.requires.ip_bound.3),
+      (c.requires.inside.0, c.requires.inside.1, c.requires.inside.2, c.requires.inside.2, c.requires.inside.3),
     ),
   ),
 )
@@ -604,7 +604,7 @@ pub passes_at-join_locals-requires : goal.passes_at-join_locals-requires
 passes_at-join_locals-requires t c = (c.passes.invariant.2, c.interp_region-o.ensures.0, omega (arith, c.requires.placed.of.locals, locals_low c.args.t.now c.args.x.chunk))
 
 pub passes_at-copy-requires-in-passes : goal.passes_at-copy-requires-in-passes
-passes_at-copy-requires-in-passes t c = (c.interp_region-o.ensures.0, c.join_locals.ensures.0, c.requires.ip_bound.2, omega (arith, c.requires.placed.of.locals, locals_low c.args.t.now c.args.x.chunk))
+passes_at-copy-requires-in-passes t c = (c.interp_region-o.ensures.0, c.join_locals.ensures.0, c.requires.inside.2, omega (arith, c.requires.placed.of.locals, locals_low c.args.t.now c.args.x.chunk))
 
 pub passes_at-overflow_sub-left : goal.passes_at-overflow_sub-left
 passes_at-overflow_sub-left t c = omega (arith, c.if-left-eq0.false)
@@ -624,7 +624,7 @@ passes_at-passes-preserved t c = (
       (c.interp_region-o.ensures.2 ∙ ap (λ (z : AnyState). full (Visits.chunk_in c.args.t.now c.args.x) (c.args.ip + 1) (c.args.exit - 1) c.args.height z (Outcomes.breaks_of c.args.x.locals
       (breaks_in (record { pending = Nothing; height = 0 }) c.passes.broken c.passes.held)) (sheets_of c.passes.heights c.passes.blinds)) c.passes.invariant.3) c.in-Falls.is (sym c.same_stack.ensures ∙ c.if-same_stack.true)
       (sym (c.covers_locals.ensures 0 0) ∙ c.if-covers_locals.false) c.if-left-eq0.false (at c.args.height c.join_locals.new.slots c.join_locals.new.places) refl
-      (c.join_locals.ensures.1 c.args.height c.requires.ip_bound.2) c.interp_region-o.auto.heights c.interp_region-o.auto.blinds,
+      (c.join_locals.ensures.1 c.args.height c.requires.inside.2) c.interp_region-o.auto.heights c.interp_region-o.auto.blinds,
 )
 
 pub passes_at-returns-in-Ended : goal.passes_at-returns-in-Ended
@@ -668,10 +668,10 @@ pub two_arms-copy-requires : goal.two_arms-copy-requires
 two_arms-copy-requires t c = (search rules, c.requires.long.0, c.requires.ready.height_low, omega (arith, c.requires.ready.placed.of.locals, locals_low c.args.t.now c.args.x.chunk))
 
 pub two_arms-overflow_sub-target : goal.two_arms-overflow_sub-target
-two_arms-overflow_sub-target t c = let q = Cycle.two_arms_in c.args.t.now c.args.heights.now c.args.blinds.now c.args.x c.args.target c.args.ip c.args.end c.args.floor _ _ c.requires.ready c.requires.ip_lt_end.0 c.requires.ip_lt_end.1 c.args.closer c.requires.ip_lt_end.2 in omega (arith, q.0)
+two_arms-overflow_sub-target t c = let q = Cycle.two_arms_in c.args.t.now c.args.heights.now c.args.blinds.now c.args.x c.args.target c.args.ip c.args.end c.args.floor _ _ c.requires.ready c.requires.inside.0 c.requires.inside.1 c.args.closer c.requires.inside.2 in omega (arith, q.0)
 
 pub two_arms-interp_region-a-requires : goal.two_arms-interp_region-a-requires
-two_arms-interp_region-a-requires t c = let q = Cycle.two_arms_in c.args.t.now c.args.heights.now c.args.blinds.now c.args.x c.args.target c.args.ip c.args.end c.args.floor _ _ c.requires.ready c.requires.ip_lt_end.0 c.requires.ip_lt_end.1 c.args.closer c.requires.ip_lt_end.2 in (
+two_arms-interp_region-a-requires t c = let q = Cycle.two_arms_in c.args.t.now c.args.heights.now c.args.blinds.now c.args.x c.args.target c.args.ip c.args.end c.args.floor _ _ c.requires.ready c.requires.inside.0 c.requires.inside.1 c.args.closer c.requires.inside.2 in (
   omega (
     arith,
     q.0,
@@ -695,7 +695,7 @@ two_arms-interp_region-a-requires t c = let q = Cycle.two_arms_in c.args.t.now c
 )
 
 pub two_arms-overflow_add-result : goal.two_arms-overflow_add-result
-two_arms-overflow_add-result t c = let q = Cycle.two_arms_in c.args.t.now c.args.heights.now c.args.blinds.now c.args.x c.args.target c.args.ip c.args.end c.args.floor _ _ c.requires.ready c.requires.ip_lt_end.0 c.requires.ip_lt_end.1 c.args.closer c.requires.ip_lt_end.2 in omega (
+two_arms-overflow_add-result t c = let q = Cycle.two_arms_in c.args.t.now c.args.heights.now c.args.blinds.now c.args.x c.args.target c.args.ip c.args.end c.args.floor _ _ c.requires.ready c.requires.inside.0 c.requires.inside.1 c.args.closer c.requires.inside.2 in omega (
   arith,
   q.2,
   c.ranges,
@@ -706,13 +706,13 @@ two_arms-returns-in-Refused t c = (
   c.interp_region-a.ensures.0,
   c.interp_region-a.ensures.1,
   Cycle.then_refused c.args.t.now c.args.x c.args.target c.args.ip c.args.end c.args.floor (at c.args.height c.args.slots.now c.args.places.now) (breaks_in c.args.b c.args.broken.now c.args.held.now) _ _ (outcome_in c.interp_region-a.result c.interp_region-a.new.slots c.interp_region-a.new.places c.interp_region-a.new.broken c.interp_region-a.new.held) c.args.closer
-      c.requires.ip_lt_end.2 c.interp_region-a.ensures.2 (c.args.closer + 1) c.in-Refused.is,
+      c.requires.inside.2 c.interp_region-a.ensures.2 (c.args.closer + 1) c.in-Refused.is,
   (let q = Cycle.two_arms_in c.args.t.now c.args.heights.now c.args.blinds.now c.args.x c.args.target c.args.ip c.args.end
-      c.args.floor _ _ c.requires.ready c.requires.ip_lt_end.0 c.requires.ip_lt_end.1 c.args.closer c.requires.ip_lt_end.2 in (omega (arith, q.0, q.1), omega (arith, q.2), c.interp_region-a.ensures.3)),
+      c.args.floor _ _ c.requires.ready c.requires.inside.0 c.requires.inside.1 c.args.closer c.requires.inside.2 in (omega (arith, q.0, q.1), omega (arith, q.2), c.interp_region-a.ensures.3)),
 )
 
 pub two_arms-interp_region-e-requires : goal.two_arms-interp_region-e-requires
-two_arms-interp_region-e-requires t c = let q = Cycle.two_arms_in c.args.t.now c.args.heights.now c.args.blinds.now c.args.x c.args.target c.args.ip c.args.end c.args.floor _ _ c.requires.ready c.requires.ip_lt_end.0 c.requires.ip_lt_end.1 c.args.closer c.requires.ip_lt_end.2 in (
+two_arms-interp_region-e-requires t c = let q = Cycle.two_arms_in c.args.t.now c.args.heights.now c.args.blinds.now c.args.x c.args.target c.args.ip c.args.end c.args.floor _ _ c.requires.ready c.requires.inside.0 c.requires.inside.1 c.args.closer c.requires.inside.2 in (
   omega (
     arith,
     q.0,
@@ -736,7 +736,7 @@ two_arms-interp_region-e-requires t c = let q = Cycle.two_arms_in c.args.t.now c
 )
 
 pub two_arms-overflow_add-result-in-Refused-g : goal.two_arms-overflow_add-result-in-Refused-g
-two_arms-overflow_add-result-in-Refused-g t c = let q = Cycle.two_arms_in c.args.t.now c.args.heights.now c.args.blinds.now c.args.x c.args.target c.args.ip c.args.end c.args.floor _ _ c.requires.ready c.requires.ip_lt_end.0 c.requires.ip_lt_end.1 c.args.closer c.requires.ip_lt_end.2 in omega (
+two_arms-overflow_add-result-in-Refused-g t c = let q = Cycle.two_arms_in c.args.t.now c.args.heights.now c.args.blinds.now c.args.x c.args.target c.args.ip c.args.end c.args.floor _ _ c.requires.ready c.requires.inside.0 c.requires.inside.1 c.args.closer c.requires.inside.2 in omega (
   arith,
   q.2,
   c.ranges,
@@ -747,7 +747,7 @@ two_arms-returns-in-Refused-g t c = (
   c.interp_region-a.ensures.0,
   c.interp_region-e.ensures.1,
   Cycle.else_refused c.args.t.now c.args.x c.args.target c.args.ip c.args.end c.args.floor (at c.args.height c.args.slots.now c.args.places.now) (breaks_in c.args.b c.args.broken.now c.args.held.now) _ _ (outcome_in c.interp_region-a.result c.interp_region-a.new.slots c.interp_region-a.new.places c.interp_region-a.new.broken c.interp_region-a.new.held) c.args.closer
-      c.requires.ip_lt_end.2 c.interp_region-a.ensures.2 (Laws.open_by c.interp_region-a.result.flow (opened c.in_default.in_default-own.keys2)) (outcome_in c.interp_region-e.result
+      c.requires.inside.2 c.interp_region-a.ensures.2 (Laws.open_by c.interp_region-a.result.flow (opened c.in_default.in_default-own.keys2)) (outcome_in c.interp_region-e.result
       c.interp_region-a.new.slots c.interp_region-a.new.places c.interp_region-e.new.broken c.interp_region-e.new.held) _ (Cycle.refused_same
       c.args.x.locals _ (outcome_in c.interp_region-e.result c.interp_region-e.new.slots c.interp_region-e.new.places
       c.interp_region-e.new.broken c.interp_region-e.new.held) _ c.in-Refused-g.is c.in-Refused-g.is ∙
@@ -755,7 +755,7 @@ two_arms-returns-in-Refused-g t c = (
       c.interp_region-a.result.breaks c.interp_region-a.new.broken c.interp_region-a.new.held)) (sheets_of c.interp_region-a.new.heights c.interp_region-a.new.blinds))
       c.copy.ensures.1) (c.args.closer + 1) c.in-Refused-g.is,
   (let q = Cycle.two_arms_in c.args.t.now c.args.heights.now c.args.blinds.now c.args.x c.args.target c.args.ip c.args.end c.args.floor _ _ c.requires.ready
-      c.requires.ip_lt_end.0 c.requires.ip_lt_end.1 c.args.closer c.requires.ip_lt_end.2 in (omega (arith, q.0, q.1), omega (arith, q.2), c.interp_region-e.ensures.3)),
+      c.requires.inside.0 c.requires.inside.1 c.args.closer c.requires.inside.2 in (omega (arith, q.0, q.1), omega (arith, q.2), c.interp_region-e.ensures.3)),
 )
 
 pub two_arms-join_ends-m-requires : goal.two_arms-join_ends-m-requires
@@ -772,7 +772,7 @@ two_arms-join_ends-m-requires t c = (
 )
 
 pub two_arms-overflow_add-result-2 : goal.two_arms-overflow_add-result-2
-two_arms-overflow_add-result-2 t c = let q = Cycle.two_arms_in c.args.t.now c.args.heights.now c.args.blinds.now c.args.x c.args.target c.args.ip c.args.end c.args.floor _ _ c.requires.ready c.requires.ip_lt_end.0 c.requires.ip_lt_end.1 c.args.closer c.requires.ip_lt_end.2 in omega (
+two_arms-overflow_add-result-2 t c = let q = Cycle.two_arms_in c.args.t.now c.args.heights.now c.args.blinds.now c.args.x c.args.target c.args.ip c.args.end c.args.floor _ _ c.requires.ready c.requires.inside.0 c.requires.inside.1 c.args.closer c.requires.inside.2 in omega (
   arith,
   q.2,
   c.ranges,
@@ -783,7 +783,7 @@ two_arms-returns t c = (
   c.join_ends-m.ensures.0,
   c.interp_region-e.ensures.1,
   Cycle.both_joined c.args.t.now c.args.x c.args.target c.args.ip c.args.end c.args.floor (at c.args.height c.args.slots.now c.args.places.now) (breaks_in c.args.b c.args.broken.now c.args.held.now) _ _ (outcome_in c.interp_region-a.result c.interp_region-a.new.slots c.interp_region-a.new.places c.interp_region-a.new.broken c.interp_region-a.new.held) c.args.closer
-      c.requires.ip_lt_end.2 c.interp_region-a.ensures.2 (Laws.open_by c.interp_region-a.result.flow (opened c.in_default.in_default-own.keys2)) (outcome_in c.interp_region-e.result
+      c.requires.inside.2 c.interp_region-a.ensures.2 (Laws.open_by c.interp_region-a.result.flow (opened c.in_default.in_default-own.keys2)) (outcome_in c.interp_region-e.result
       c.interp_region-e.new.slots c.interp_region-e.new.places c.interp_region-e.new.broken
       c.interp_region-e.new.held) _ (c.interp_region-e.ensures.2 ∙ ap (λ (z : AnyState). full (Visits.chunk_in c.args.t.now c.args.x) c.args.target c.args.closer c.args.floor z (Outcomes.breaks_of
       c.args.x.locals (breaks_in c.interp_region-a.result.breaks c.interp_region-a.new.broken c.interp_region-a.new.held)) (sheets_of c.interp_region-a.new.heights
@@ -791,7 +791,7 @@ two_arms-returns t c = (
       c.join_ends-m.new.slots c.join_ends-m.new.places c.interp_region-e.new.broken c.interp_region-e.new.held)
       (c.join_ends-m.ensures.1 c.interp_region-e.new.broken c.interp_region-e.new.held _),
   (let q = Cycle.two_arms_in c.args.t.now c.args.heights.now
-      c.args.blinds.now c.args.x c.args.target c.args.ip c.args.end c.args.floor _ _ c.requires.ready c.requires.ip_lt_end.0 c.requires.ip_lt_end.1 c.args.closer c.requires.ip_lt_end.2 in (
+      c.args.blinds.now c.args.x c.args.target c.args.ip c.args.end c.args.floor _ _ c.requires.ready c.requires.inside.0 c.requires.inside.1 c.args.closer c.requires.inside.2 in (
         omega (arith, q.0, q.1),
         omega (arith, q.2),
         c.join_ends-m.ensures.2,

@@ -5,9 +5,9 @@ use Rattle.walk.proofs.Start.{chunk_ready}
 use Rattle.walk_cases.proofs.show_last.Goals as goal
 
 -- The instruction read is the loop's, and leads to the exit that it names.
-pub last_pass-f-requires-clause-ip_bound : goal.last_pass-f-requires-clause-ip_bound
+pub last_pass-f-requires-clause-inside : goal.last_pass-f-requires-clause-inside
 unfolding leads
-last_pass-f-requires-clause-ip_bound g c =
+last_pass-f-requires-clause-inside g c =
     let
     R = chunk_ready c.args.t.now c.args.heights.now c.args.blinds.now 0 c.requires.roomy c.context-x.result c.context-x.ensures
     in (
