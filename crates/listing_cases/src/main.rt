@@ -205,9 +205,24 @@ fn run(rt: &impl Print, input: &[u8], text: &mut [u8]) -> io::Result<()> {
     Ok(())
 }
 
+// Reads until `buf` is full or the input ends, and answers how many bytes were read.
+fn read_full(input: &mut impl Read, buf: &mut [u8]) -> io::Result<usize>
+    ensures { IfOk result (λ n. n ≤ length buf.new) }
+{
+    let mut n = 0;
+    while n < buf.len() {
+        let more = input.read(&mut buf[n..])?;
+        if more == 0 {
+            return Ok(n);
+        }
+        n += more;
+    }
+    Ok(n)
+}
+
 fn main(rt: HostRuntime) -> io::Result<()> {
-    let mut input = Vec::new(rt.alloc());
-    rt.stdin().take(65536).read_to_end(&mut input)?;
+    let mut input = [0u8; 65536];
+    let n = read_full(&mut rt.stdin(), &mut input)?;
     let mut text = [0u8; 70000];
-    run(&rt, input.as_slice(), &mut text)
+    run(&rt, &input[..n], &mut text)
 }

@@ -5,7 +5,7 @@
 ghost use Rattle.std.specs.Prelude.{◌≤◌, ◌<◌, IfOk, length};
 
 use std::io;
-use std::io::{BufReader, Read, Write};
+use std::io::{Read, Write};
 
 fn print(rt: &impl Print, text: &[u8]) -> io::Result<()> {
     io::writer(rt).write_all(text)
@@ -441,7 +441,7 @@ fn run(
 
 // A line has room for a sheet of 4,096 entries, and the text for one byte more than a listing may have.
 fn main(rt: HostRuntime) -> io::Result<()> {
-    let mut input = BufReader::new(rt.alloc(), rt.stdin())?;
+    let mut input = rt.stdin();
     let mut line = [0u8; 16384];
     let mut text = [0u8; 65537];
     let mut heights = [0u8; 4096];

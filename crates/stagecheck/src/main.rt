@@ -7,6 +7,7 @@ ghost use Rattle.stagecheck.specs.Read.{Within};
 
 use printed::ROOM;
 use std::env::{Env, FillError};
+use std::fmt::InlineText;
 use std::fs::File;
 use std::io;
 use std::io::{Error, ErrorKind, Read, Write};
@@ -41,9 +42,12 @@ fn words_of(text: &str) -> &str {
     }
 }
 
+// Room for a reason of the system's. A longer one is cut.
+const REASON: usize = 256;
+
 // Says on standard error what could not be done, and why.
 fn fail(rt: &HostRuntime, what: &[u8], why: Error) -> io::Result<()> {
-    let text = format!(in rt.alloc(); "{why}")?;
+    let text: InlineText<REASON> = InlineText::of(why);
     let mut stderr = rt.stderr();
     stderr.write_all(b"stagecheck: ")?;
     stderr.write_all(what)?;
