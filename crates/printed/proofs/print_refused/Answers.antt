@@ -10,6 +10,7 @@ use Rattle.printed.proofs.Writes.{at_start, holds, begun, part, last}
 use borrow.Author.Rules.{rules}
 use native.Mathlib.Omega.{arith}
 use Rattle.printed.proofs.print_refused.Goals as goal
+use Rattle.printed.proofs.print_refused.Goals.{In-loop-i}
 
 pub loop-i-init : goal.loop-i-init
 unfolding bytes
@@ -20,15 +21,18 @@ loop-i-init c = (
   part (begun [] 0 (numbers_begun c.args.fields.now (bytes "refused"))) refl (at_start c.put_text-next.ensures),
 )
 
+-- a number of 64 bits has at most 20 digits
+short : (c : In-loop-i) → length (decimal (get_or c.args.fields.now c.loop-i.i 0)) ≤ 20
+short c = decimal_short 19 _ (omega (arith, c.type_inv.fields c.loop-i.i))
+
 pub put_number-next-requires : goal.put_number-next-requires
-put_number-next-requires c = let short : length (decimal (get_or c.args.fields.now c.loop-i.i 0)) ≤ 20 = decimal_short 19 _ (omega (arith, c.type_inv.fields c.loop-i.i)) in
-    omega (arith, c.loop-i.invariant.1, c.loop-i.invariant.2)
+put_number-next-requires c = omega (arith, c.loop-i.invariant.1, c.loop-i.invariant.2, short (goal.at.put_number-next-requires c).In-loop-i)
 
 pub loop-i-preserved : goal.loop-i-preserved
-loop-i-preserved c = let short : length (decimal (get_or c.args.fields.now c.loop-i.i 0)) ≤ 20 = decimal_short 19 _ (omega (arith, c.type_inv.fields c.loop-i.i)) in (
+loop-i-preserved c = (
   omega arith,
   omega (arith, c.loop-i.invariant.1, c.put_number-next.auto.out),
-  omega (arith, c.loop-i.invariant.2, c.put_number-next.ensures.place),
+  omega (arith, c.loop-i.invariant.2, c.put_number-next.ensures.place, short (goal.at.loop-i-preserved c).In-loop-i),
   part c.loop-i.invariant.3 (numbers_more c.args.fields.now c.loop-i.i c.loop-i-test.true) c.put_number-next.ensures,
 )
 
