@@ -1,5 +1,5 @@
 -- What each case of an answer means: the number and the values of each refusal.
-use Rattle.std.specs.Prelude.{Bool, true, false, List, [], ◌∷◌, ℕ}
+use Rattle.std.specs.Prelude.{Bool, true, false, List, [], ◌∷◌, ℕ, Result as Outcome, Ok, Err}
 use Rattle.std.proofs.Math.Option.{Option, none, some}
 use Rattle.definition.specs.Basics.{Result, ok, refused}
 use Rattle.definition.specs.Check.{Answer as AnyAnswer, accepted, refusal as refusing}
@@ -7,18 +7,15 @@ use Rattle.answer.specs.declared.Refusal.{Refusal}
 use Rattle.answer.specs.declared.Refusal.TheVariants as R
 use Rattle.answer.specs.declared.Verdict.{Verdict}
 use Rattle.answer.specs.declared.Verdict.TheVariants as case
-use Rattle.answer.specs.declared.Finding.{Finding}
-use Rattle.answer.specs.declared.Finding.TheVariants as F
-use Rattle.answer.specs.declared.Answer.{Answer}
-use Rattle.answer.specs.declared.Answer.TheVariants.{Accepted, Refused}
-use Rattle.answer.specs.declared.Written.{Written}
-use Rattle.answer.specs.declared.Written.TheVariants as W
+use Rattle.answer.specs.declared.Refused.{Refused}
+use Rattle.answer.specs.declared.Accepted.{Accepted}
+use Rattle.answer.specs.Codes.{limit_number, private_number, shared_number}
 
 -- 01: "A refusal carries number, chunk (0 if none), then its Rust fields in declared order; 2 carries ip (0 if none) and limit, 3 ip."
 -- 1 carries "the count of lines before it", 4 "their number, the shorter length", 20 "the length needed". The chunk is not among these.
 unfoldable pub fields : Refusal → List ℕ
 fields (R.CannotFollow lines) = 1 ∷ lines ∷ []
-fields (R.LimitPassed ip limit) = 2 ∷ ip ∷ limit ∷ []
+fields (R.LimitPassed ip limit) = 2 ∷ ip ∷ limit_number limit ∷ []
 fields (R.NotNested ip) = 3 ∷ ip ∷ []
 fields (R.SheetTooShort instructions length) = 4 ∷ instructions ∷ length ∷ []
 fields (R.StackUnderflow ip) = 5 ∷ ip ∷ []
@@ -34,8 +31,8 @@ fields (R.CallArgMismatch ip callee arg) = 14 ∷ ip ∷ callee ∷ arg ∷ []
 fields (R.ArrayStrideMismatch ip element array) = 15 ∷ ip ∷ element ∷ array ∷ []
 fields (R.SharedSlotOutOfBounds slot offset size buffer) = 16 ∷ slot ∷ offset ∷ size ∷ buffer ∷ []
 fields (R.EnumBodySizeMismatch ip baked) = 17 ∷ ip ∷ baked ∷ []
-fields (R.PrivateCompositeLayoutInvalid index slot reason) = 18 ∷ index ∷ slot ∷ reason ∷ []
-fields (R.SharedLayoutCountMismatch slots len reason) = 19 ∷ slots ∷ len ∷ reason ∷ []
+fields (R.PrivateCompositeLayoutInvalid index slot reason) = 18 ∷ index ∷ slot ∷ private_number reason ∷ []
+fields (R.SharedLayoutCountMismatch slots len reason) = 19 ∷ slots ∷ len ∷ shared_number reason ∷ []
 fields (R.BufferTooShort needed) = 20 ∷ needed ∷ []
 
 -- the refusal's number, the chunk's, then the values
@@ -56,15 +53,24 @@ abbrev pub is_none : Option (List ℕ) → Bool
 is_none none = true
 is_none (some r) = false
 
+-- with its chunk
+abbrev pub refused_numbers : Refused → List ℕ
+refused_numbers r = numbers r.chunk r.refusal
+
 -- as the definitions have it of a module
-unfoldable pub found : Finding → Option (List ℕ)
-found F.Nothing = none
-found (F.Refused k r) = some (numbers k r)
+unfoldable pub found : Outcome Unit Refused → Option (List ℕ)
+found (Ok _) = none
+found (Err r) = some (refused_numbers r)
 
-unfoldable pub answer_of : Answer → AnyAnswer
-answer_of (Accepted chunks instructions) = accepted chunks instructions
-answer_of (Refused k r) = refusing (numbers k r)
+-- the same of a test that belongs to no chunk
+unfoldable pub found_in_none : Outcome Unit Refusal → Option (List ℕ)
+found_in_none (Ok _) = none
+found_in_none (Err r) = some (numbers 0 r)
 
-unfoldable pub written_of : Written → Result ℕ
-written_of (W.Length n) = ok n
-written_of (W.Refused r) = refused (numbers 0 r)
+unfoldable pub answer_of : Outcome Accepted Refused → AnyAnswer
+answer_of (Ok a) = accepted a.chunks a.instructions
+answer_of (Err r) = refusing (refused_numbers r)
+
+unfoldable pub written_of : Outcome ℕ Refusal → Result ℕ
+written_of (Ok n) = ok n
+written_of (Err r) = refused (numbers 0 r)

@@ -1,12 +1,15 @@
 // The answer of a call: of the check acceptance, of the writer the length written, of both a refusal with its values.
 #![tactic(auto)]
 
-ghost use Rattle.std.specs.Prelude.{◌≡◌, ◌∷◌, []};
-ghost use Rattle.answer.specs.Answer.{numbers, refusal, is_none, answer_of, written_of};
+ghost use Rattle.std.specs.Prelude.{◌≡◌, ◌≤◌};
+ghost use Rattle.answer.specs.Answer.{numbers, refusal, is_none, refused_numbers, answer_of, written_of};
 ghost use Rattle.answer.specs.Numbers.{values_of, values_of_written, row_of};
 
 pub mod limit;
 pub mod reason;
+
+use limit::Limit;
+use reason::{PrivateReason, SharedReason};
 
 // A fault, made where it is found: in the order of the numbers of 01, 1 to 19, with the Rust's fields, and of 02, from 20 on. The chunk stands
 // beside it.
@@ -15,7 +18,7 @@ pub enum Refusal {
     // 1: lines before the one that cannot follow
     CannotFollow(u64),
     // 2: ip, limit
-    LimitPassed(u64, u64),
+    LimitPassed(u64, Limit),
     // 3: ip
     NotNested(u64),
     // 4: instructions, the shorter length
@@ -47,9 +50,9 @@ pub enum Refusal {
     // 17: ip, baked
     EnumBodySizeMismatch(u64, u64),
     // 18: index, slot, reason
-    PrivateCompositeLayoutInvalid(u64, u64, u64),
+    PrivateCompositeLayoutInvalid(u64, u64, PrivateReason),
     // 19: shared_slots, layout_len, reason
-    SharedLayoutCountMismatch(u64, u64, u64),
+    SharedLayoutCountMismatch(u64, u64, SharedReason),
     // 20: the length needed
     BufferTooShort(u64),
 }
@@ -62,6 +65,7 @@ pub enum Verdict {
 }
 
 impl Verdict {
+    #[tactic(auto, unfolding(crate::specs::Answer::refusal))]
     pub fn passed(self) -> bool
         ensures { result ≡ is_none (refusal self) }
     {
@@ -72,25 +76,26 @@ impl Verdict {
     }
 }
 
-// Of a test of the module: the chunk, 0 where there is none, and the refusal.
+// A refusal with its chunk, 0 where there is none.
 #[derive(Clone, Copy)]
-pub enum Finding {
-    Nothing,
-    Refused(u64, Refusal),
+pub struct Refused {
+    pub chunk: u64,
+    pub refusal: Refusal,
 }
 
-// Acceptance with the number of chunks and of all instructions, or one refusal with its chunk.
-#[derive(Clone, Copy)]
-pub enum Answer {
-    Accepted(u64, u64),
-    Refused(u64, Refusal),
+impl From<Refusal> for Refused {
+    ghost from_gives = { λ refusal refused. refused ≡ record { chunk = 0; refusal = refusal } };
+
+    fn from(refusal: Refusal) -> Refused {
+        Refused { chunk: 0, refusal }
+    }
 }
 
-// Of a call that writes a listing: the length written, or one refusal, of no chunk.
+// What an acceptance says: the number of chunks and of all instructions.
 #[derive(Clone, Copy)]
-pub enum Written {
-    Length(u64),
-    Refused(Refusal),
+pub struct Accepted {
+    pub chunks: u64,
+    pub instructions: u64,
 }
 
 // An answer's numbers: as many as count says, and zeros after them.
@@ -100,101 +105,82 @@ pub struct Numbers {
     pub words: [u64; 8],
 }
 
-fn two(a: u64, b: u64) -> Numbers
-    ensures { result ≡ row_of (a ∷ b ∷ []) }
+// The values, and zeros after them.
+fn row<const N: usize>(values: [u64; N]) -> Numbers
+    requires { N ≤ 8 }
+    ensures { result ≡ row_of values.entry }
 {
-    Numbers {
-        count: 2,
-        words: [a, b, 0, 0, 0, 0, 0, 0],
-    }
-}
-
-fn three(a: u64, b: u64, c: u64) -> Numbers
-    ensures { result ≡ row_of (a ∷ b ∷ c ∷ []) }
-{
-    Numbers {
-        count: 3,
-        words: [a, b, c, 0, 0, 0, 0, 0],
-    }
-}
-
-fn four(a: u64, b: u64, c: u64, d: u64) -> Numbers
-    ensures { result ≡ row_of (a ∷ b ∷ c ∷ d ∷ []) }
-{
-    Numbers {
-        count: 4,
-        words: [a, b, c, d, 0, 0, 0, 0],
-    }
-}
-
-fn five(a: u64, b: u64, c: u64, d: u64, e: u64) -> Numbers
-    ensures { result ≡ row_of (a ∷ b ∷ c ∷ d ∷ e ∷ []) }
-{
-    Numbers {
-        count: 5,
-        words: [a, b, c, d, e, 0, 0, 0],
-    }
-}
-
-fn six(a: u64, b: u64, c: u64, d: u64, e: u64, f: u64) -> Numbers
-    ensures { result ≡ row_of (a ∷ b ∷ c ∷ d ∷ e ∷ f ∷ []) }
-{
-    Numbers {
-        count: 6,
-        words: [a, b, c, d, e, f, 0, 0],
-    }
+    let mut words = [0u64; 8];
+    words[..N].copy_from_slice(&values);
+    Numbers { count: N, words }
 }
 
 impl Refusal {
     // Its number, the chunk and its values.
+    #[tactic(auto, unfolding(crate::specs::Answer::fields, crate::specs::Answer::with_chunk, crate::specs::Answer::numbers))]
     pub fn numbers(self, k: u64) -> Numbers
         ensures { result ≡ row_of (numbers k self) }
     {
         match self {
-            Refusal::CannotFollow(n) => three(1, k, n),
-            Refusal::LimitPassed(p, l) => four(2, k, p, l),
-            Refusal::NotNested(p) => three(3, k, p),
-            Refusal::SheetTooShort(n, l) => four(4, k, n, l),
-            Refusal::StackUnderflow(p) => three(5, k, p),
-            Refusal::OffsetOutOfBounds(p, o, n, s) => six(6, k, p, o, n, s),
-            Refusal::ExpectedComposite(p) => three(7, k, p),
-            Refusal::NewCompositeSizeMismatch(p, b, c) => five(8, k, p, b, c),
-            Refusal::TextFieldMismatch(p, o) => four(9, k, p, o),
-            Refusal::BranchHeightMismatch(p, t, e) => five(10, k, p, t, e),
-            Refusal::LoopNotNeutral(p, e, x) => five(11, k, p, e, x),
-            Refusal::LoopFloorBreach(p, f, a, r) => six(12, k, p, f, a, r),
-            Refusal::LocalTypeMismatch(p, s) => four(13, k, p, s),
-            Refusal::CallArgMismatch(p, c, a) => five(14, k, p, c, a),
-            Refusal::ArrayStrideMismatch(p, e, a) => five(15, k, p, e, a),
-            Refusal::SharedSlotOutOfBounds(s, o, n, b) => six(16, k, s, o, n, b),
-            Refusal::EnumBodySizeMismatch(p, b) => four(17, k, p, b),
-            Refusal::PrivateCompositeLayoutInvalid(i, s, r) => five(18, k, i, s, r),
-            Refusal::SharedLayoutCountMismatch(s, n, r) => five(19, k, s, n, r),
-            Refusal::BufferTooShort(n) => three(20, k, n),
+            Refusal::CannotFollow(n) => row([1, k, n]),
+            Refusal::LimitPassed(p, l) => row([2, k, p, u64::from(l)]),
+            Refusal::NotNested(p) => row([3, k, p]),
+            Refusal::SheetTooShort(n, l) => row([4, k, n, l]),
+            Refusal::StackUnderflow(p) => row([5, k, p]),
+            Refusal::OffsetOutOfBounds(p, o, n, s) => row([6, k, p, o, n, s]),
+            Refusal::ExpectedComposite(p) => row([7, k, p]),
+            Refusal::NewCompositeSizeMismatch(p, b, c) => row([8, k, p, b, c]),
+            Refusal::TextFieldMismatch(p, o) => row([9, k, p, o]),
+            Refusal::BranchHeightMismatch(p, t, e) => row([10, k, p, t, e]),
+            Refusal::LoopNotNeutral(p, e, x) => row([11, k, p, e, x]),
+            Refusal::LoopFloorBreach(p, f, a, r) => row([12, k, p, f, a, r]),
+            Refusal::LocalTypeMismatch(p, s) => row([13, k, p, s]),
+            Refusal::CallArgMismatch(p, c, a) => row([14, k, p, c, a]),
+            Refusal::ArrayStrideMismatch(p, e, a) => row([15, k, p, e, a]),
+            Refusal::SharedSlotOutOfBounds(s, o, n, b) => row([16, k, s, o, n, b]),
+            Refusal::EnumBodySizeMismatch(p, b) => row([17, k, p, b]),
+            Refusal::PrivateCompositeLayoutInvalid(i, s, r) => row([18, k, i, s, u64::from(r)]),
+            Refusal::SharedLayoutCountMismatch(s, n, r) => row([19, k, s, n, u64::from(r)]),
+            Refusal::BufferTooShort(n) => row([20, k, n]),
         }
     }
 }
 
-impl Answer {
-    // 0, chunks and instructions for acceptance, or the refusal's numbers.
-    pub fn numbers(self) -> Numbers
-        ensures { result ≡ row_of (values_of (answer_of self)) }
-    {
-        match self {
-            Answer::Accepted(chunks, instructions) => three(0, chunks, instructions),
-            Answer::Refused(k, r) => r.numbers(k),
+impl From<Refused> for Numbers {
+    ghost from_gives = { λ refused numbers. numbers ≡ row_of (refused_numbers refused) };
+
+    fn from(refused: Refused) -> Numbers {
+        refused.refusal.numbers(refused.chunk)
+    }
+}
+
+// 0, chunks and instructions for acceptance, or the refusal's numbers.
+impl From<Result<Accepted, Refused>> for Numbers {
+    ghost from_gives = { λ answer numbers. numbers ≡ row_of (values_of (answer_of answer)) };
+
+    #[tactic(auto, unfolding(crate::specs::Answer::answer_of, crate::specs::Numbers::values_of))]
+    fn from(answer: Result<Accepted, Refused>) -> Numbers {
+        match answer {
+            Ok(
+                Accepted {
+                    chunks,
+                    instructions,
+                },
+            ) => row([0, chunks, instructions]),
+            Err(refused) => Numbers::from(refused),
         }
     }
 }
 
-impl Written {
-    // 0 and the length written, or the refusal's numbers.
-    pub fn numbers(self) -> Numbers
-        ensures { result ≡ row_of (values_of_written (written_of self)) }
-    {
-        match self {
-            Written::Length(n) => two(0, n),
-            Written::Refused(r) => r.numbers(0),
+// 0 and the length written, or the refusal's numbers.
+impl From<Result<u64, Refusal>> for Numbers {
+    ghost from_gives = { λ written numbers. numbers ≡ row_of (values_of_written (written_of written)) };
+
+    #[tactic(auto, unfolding(crate::specs::Answer::written_of, crate::specs::Numbers::values_of_written))]
+    fn from(written: Result<u64, Refusal>) -> Numbers {
+        match written {
+            Ok(length) => row([0, length]),
+            Err(refusal) => refusal.numbers(0),
         }
     }
 }

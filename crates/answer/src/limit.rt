@@ -1,12 +1,28 @@
+ghost use Rattle.std.specs.Prelude.{◌≡◌};
+ghost use Rattle.answer.specs.Codes.{limit_number};
+
 // The limits of refusal 2.
-pub const BYTES: u64 = 1;
+#[derive(Clone, Copy)]
+pub enum Limit {
+    Bytes,
+    Table,
+    Locals,
+    Blocks,
+    Operands,
+    Places,
+}
 
-pub const TABLE: u64 = 2;
+impl From<Limit> for u64 {
+    ghost from_gives = { λ limit number. number ≡ limit_number limit };
 
-pub const LOCALS: u64 = 3;
-
-pub const BLOCKS: u64 = 4;
-
-pub const OPERANDS: u64 = 5;
-
-pub const PLACES: u64 = 6;
+    fn from(limit: Limit) -> u64 {
+        match limit {
+            Limit::Bytes => 1,
+            Limit::Table => 2,
+            Limit::Locals => 3,
+            Limit::Blocks => 4,
+            Limit::Operands => 5,
+            Limit::Places => 6,
+        }
+    }
+}

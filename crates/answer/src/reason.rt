@@ -1,12 +1,42 @@
+ghost use Rattle.std.specs.Prelude.{◌≡◌};
+ghost use Rattle.answer.specs.Codes.{private_number, shared_number};
+
 // The reasons of refusal 18.
-pub const NO_SLOT: u64 = 1;
+#[derive(Clone, Copy)]
+pub enum PrivateReason {
+    NoSlot,
+    OutsideThePool,
+    SlotNotAbove,
+    OffsetNotAbove,
+}
 
-pub const OUTSIDE_THE_POOL: u64 = 2;
+impl From<PrivateReason> for u64 {
+    ghost from_gives = { λ reason number. number ≡ private_number reason };
 
-pub const SLOT_NOT_ABOVE: u64 = 3;
+    fn from(reason: PrivateReason) -> u64 {
+        match reason {
+            PrivateReason::NoSlot => 1,
+            PrivateReason::OutsideThePool => 2,
+            PrivateReason::SlotNotAbove => 3,
+            PrivateReason::OffsetNotAbove => 4,
+        }
+    }
+}
 
-pub const OFFSET_NOT_ABOVE: u64 = 4;
 // The reasons of refusal 19.
-pub const NOT_A_PREFIX: u64 = 1;
+#[derive(Clone, Copy)]
+pub enum SharedReason {
+    NotAPrefix,
+    CountsDiffer,
+}
 
-pub const COUNTS_DIFFER: u64 = 2;
+impl From<SharedReason> for u64 {
+    ghost from_gives = { λ reason number. number ≡ shared_number reason };
+
+    fn from(reason: SharedReason) -> u64 {
+        match reason {
+            SharedReason::NotAPrefix => 1,
+            SharedReason::CountsDiffer => 2,
+        }
+    }
+}

@@ -1,19 +1,16 @@
--- What the code's types mean.
+-- What the code's options mean: the definition's options of the definition's values.
+use Rattle.std.specs.Prelude.{ℕ, Option as Maybe, Some, None}
 use Rattle.std.proofs.Math.Option.{Option, none, some}
-use Rattle.std.specs.Prelude.{ℕ}
 use Rattle.definition.specs.Module.{Private}
 use Rattle.bytecode.specs.Parts.{private_of}
-use Rattle.data_layout.specs.declared.Size.{Size}
-use Rattle.data_layout.specs.declared.Size.TheVariants.{Bytes, Unknown}
-use Rattle.data_layout.specs.declared.Before.{Before}
-use Rattle.data_layout.specs.declared.Before.TheVariants.{Nothing, Entry}
+use Rattle.bytecode.specs.declared.PrivateEntry.{PrivateEntry}
 
 -- bytes, where the kind is known
-unfoldable pub size_of : Size → Option ℕ
-size_of (Bytes n) = some n
-size_of Unknown = none
+unfoldable pub size_of : Maybe ℕ → Option ℕ
+size_of (Some n) = some n
+size_of None = none
 
 -- the entry before, if there is one
-unfoldable pub before_of : Before → Option Private
-before_of Nothing = none
-before_of (Entry d) = some (private_of d)
+unfoldable pub before_of : Maybe PrivateEntry → Option Private
+before_of None = none
+before_of (Some d) = some (private_of d)

@@ -3,247 +3,139 @@
 
 ghost use Rattle.std.specs.Prelude.{◌≡◌, length};
 ghost use Rattle.std.proofs.Math.Option.{none};
-ghost use Rattle.definition.specs.Basics.{first};
 ghost use Rattle.definition.specs.Module.{Header as AnyHeader};
 ghost use Rattle.definition.specs.Layout.{shared_prefix, shared_count, count_test, shared_size, shared_fits, shared_test, entry_test, order_test, private_test, layout_test};
 ghost use Rattle.bytecode.specs.Meaning.{table_header, slots_of, shareds_of, privates_of, module_of};
 ghost use Rattle.bytecode.specs.Parts.{WidthsOf, shared_of, private_of};
-ghost use Rattle.answer.specs.Answer.{found};
+ghost use Rattle.answer.specs.Answer.{found_in_none};
 ghost use Rattle.data_layout.specs.Answer.{size_of, before_of};
 
-use answer::{Finding, Refusal, reason};
-use bytecode;
-use value_layout;
+use answer::Refusal;
+use answer::reason::{PrivateReason, SharedReason};
+use bytecode::{PrivateEntry, SharedEntry};
+use value_layout::Widths;
 
 // The shared slots before the first private one.
 fn prefix_shared(t: &[u64]) -> usize
     ensures { result ≡ shared_prefix (slots_of t.now) }
 {
-    let n = bytecode::count(t, bytecode::SLOTS);
-    let mut i = 0;
-    while i < n {
-        if bytecode::slot_shared(t, i) {
-            i += 1;
-        } else {
-            return i;
-        }
-    }
-    i
+    (0..bytecode::count(t, bytecode::SLOTS))
+        .take_while(|&i| bytecode::slot_shared(t, i))
+        .count()
 }
 
 // All shared slots.
 fn total_shared(t: &[u64]) -> usize
     ensures { result ≡ shared_count (slots_of t.now) }
 {
-    let n = bytecode::count(t, bytecode::SLOTS);
-    let mut total = 0;
-    let mut i = 0;
-    while i < n {
-        if bytecode::slot_shared(t, i) {
-            total += 1;
-            i += 1;
-        } else {
-            i += 1;
-        }
-    }
-    total
+    (0..bytecode::count(t, bytecode::SLOTS))
+        .filter(|&i| bytecode::slot_shared(t, i))
+        .count()
 }
 
-fn count_mismatch(t: &[u64]) -> Finding
-    ensures { found result ≡ count_test (slots_of t.now) (shareds_of t.now) }
+fn count_mismatch(t: &[u64]) -> Result<(), Refusal>
+    ensures { found_in_none result ≡ count_test (slots_of t.now) (shareds_of t.now) }
 {
-    let prefix = prefix_shared(t);
     let total = total_shared(t);
     let entries = bytecode::count(t, bytecode::SHARED);
-    if prefix != total {
-        return Finding::Refused(
-            0,
-            Refusal::SharedLayoutCountMismatch(total as u64, entries as u64, reason::NOT_A_PREFIX),
-        );
-    }
-    if entries != total {
-        return Finding::Refused(
-            0,
-            Refusal::SharedLayoutCountMismatch(total as u64, entries as u64, reason::COUNTS_DIFFER),
-        );
-    }
-    Finding::Nothing
+    let reason = if prefix_shared(t) != total {
+        SharedReason::NotAPrefix
+    } else if entries != total {
+        SharedReason::CountsDiffer
+    } else {
+        return Ok(());
+    };
+    Err(Refusal::SharedLayoutCountMismatch(total as u64, entries as u64, reason))
 }
 
 // From this KIND on a shared entry is a composite of LEN bytes.
 const FIRST_COMPOSITE: u8 = 128;
 
 // Bytes of a shared entry; a kind that is not known has no size.
-#[derive(Clone, Copy)]
-enum Size {
-    Bytes(u32),
-    Unknown,
-}
-
-fn size_of(w: value_layout::Widths, e: bytecode::SharedEntry) -> Size
-    ensures { (h : AnyHeader) → WidthsOf h w → size_of result ≡ shared_size h (shared_of e) }
+fn size_of(widths: Widths, entry: SharedEntry) -> Option<u32>
+    ensures { (h : AnyHeader) → WidthsOf h widths → size_of result ≡ shared_size h (shared_of entry) }
 {
-    let kind = e.kind;
-    let len = e.len;
-    if FIRST_COMPOSITE <= kind {
-        return Size::Bytes(len as u32);
+    match entry.kind {
+        FIRST_COMPOSITE.. => Some(u32::from(entry.len)),
+        kind if value_layout::is_lacking(widths.float, kind) => None,
+        kind => value_layout::is_scalar_tag(kind).then(|| widths.size_in_bytes(kind)),
     }
-    if value_layout::is_lacking(w.float, kind) {
-        return Size::Unknown;
-    }
-    if value_layout::is_scalar_tag(kind) {
-        return Size::Bytes(w.size_in_bytes(kind));
-    }
-    Size::Unknown
 }
 
-// Shared entry i. The sum is made at 64 bits, where it is exact.
-fn shared_slot(buffer: u32, i: usize, e: bytecode::SharedEntry, s: Size) -> Finding
-    ensures { found result ≡ shared_fits buffer i (shared_of e) (size_of s) }
+// Shared entry i. The sum is made at 64 bits, where it is exact; where there is no size it is refused with 0 for it.
+fn shared_slot(buffer: u32, i: usize, entry: SharedEntry, size: Option<u32>) -> Result<(), Refusal>
+    ensures { found_in_none result ≡ shared_fits buffer i (shared_of entry) (size_of size) }
 {
-    let offset = e.offset as u64;
-    let bytes = buffer as u64;
-    match s {
-        Size::Bytes(n) => {
-            let size = n as u64;
-            if offset + size > bytes {
-                return Finding::Refused(
-                    0,
-                    Refusal::SharedSlotOutOfBounds(i as u64, offset, size, bytes),
-                );
-            }
-            Finding::Nothing
-        }
-        Size::Unknown => Finding::Refused(
-            0,
-            Refusal::SharedSlotOutOfBounds(i as u64, offset, 0, bytes),
-        ),
+    let offset = u64::from(entry.offset);
+    let bytes = u64::from(buffer);
+    match size {
+        Some(n) if offset + u64::from(n) <= bytes => Ok(()),
+        _ => Err(Refusal::SharedSlotOutOfBounds(
+            i as u64,
+            offset,
+            u64::from(size.unwrap_or(0)),
+            bytes,
+        )),
     }
 }
 
-fn shared_slots(t: &[u64]) -> Finding
-    ensures { found result ≡ shared_test (table_header t.now) 0 (shareds_of t.now) }
+fn shared_slots(t: &[u64]) -> Result<(), Refusal>
+    ensures { found_in_none result ≡ shared_test (table_header t.now) 0 (shareds_of t.now) }
 {
-    let h = bytecode::header_at(t);
-    let buffer = h.shared_bytes;
-    let w = bytecode::widths(t);
-    let n = bytecode::count(t, bytecode::SHARED);
-    let mut i = 0;
-    while i < n {
-        let e = bytecode::shared_at(t, i);
-        let s = size_of(w, e);
-        let r = shared_slot(buffer, i, e, s);
-        let Finding::Nothing = r else {
-            return r;
-        };
-        i += 1;
+    let buffer = bytecode::header_at(t).shared_bytes;
+    let widths = bytecode::widths(t);
+    for i in 0..bytecode::count(t, bytecode::SHARED) {
+        let entry = bytecode::shared_at(t, i);
+        shared_slot(buffer, i, entry, size_of(widths, entry))?;
     }
-    Finding::Nothing
+    Ok(())
 }
 
-// The private entry before, if there is one.
-#[derive(Clone, Copy)]
-enum Before {
-    Nothing,
-    Entry(bytecode::PrivateEntry),
-}
-
-// A private entry against all slots and the pool.
-fn private_entry(slots: usize, pool: u32, i: usize, e: bytecode::PrivateEntry) -> Finding
-    ensures { found result ≡ entry_test slots pool i (private_of e) }
+// Private entry i against all slots and the pool.
+fn private_entry(slots: usize, pool: u32, i: usize, entry: PrivateEntry) -> Result<(), Refusal>
+    ensures { found_in_none result ≡ entry_test slots pool i (private_of entry) }
 {
-    let slot = e.slot;
-    let at = slot as u64;
-    let offset = e.offset;
-    if (slot as usize) >= slots {
-        return Finding::Refused(
-            0,
-            Refusal::PrivateCompositeLayoutInvalid(i as u64, at, reason::NO_SLOT),
-        );
-    }
-    if offset >= pool {
-        return Finding::Refused(
-            0,
-            Refusal::PrivateCompositeLayoutInvalid(i as u64, at, reason::OUTSIDE_THE_POOL),
-        );
-    }
-    Finding::Nothing
-}
-
-// A private entry against the one before.
-fn private_order(i: usize, before: Before, e: bytecode::PrivateEntry) -> Finding
-    ensures { found result ≡ order_test i (before_of before) (private_of e) }
-{
-    let slot = e.slot;
-    let at = slot as u64;
-    let offset = e.offset;
-    match before {
-        Before::Nothing => Finding::Nothing,
-        Before::Entry(d) => {
-            if slot <= d.slot {
-                return Finding::Refused(
-                    0,
-                    Refusal::PrivateCompositeLayoutInvalid(i as u64, at, reason::SLOT_NOT_ABOVE),
-                );
-            }
-            if offset <= d.offset {
-                return Finding::Refused(
-                    0,
-                    Refusal::PrivateCompositeLayoutInvalid(i as u64, at, reason::OFFSET_NOT_ABOVE),
-                );
-            }
-            Finding::Nothing
-        }
-    }
-}
-
-fn private_one(
-    slots: usize,
-    pool: u32,
-    i: usize,
-    before: Before,
-    e: bytecode::PrivateEntry,
-) -> Finding
-    ensures { found result ≡ first (entry_test slots pool i (private_of e)) (order_test i (before_of before) (private_of e)) }
-{
-    let r = private_entry(slots, pool, i, e);
-    let Finding::Nothing = r else {
-        return r;
+    let reason = if usize::from(entry.slot) >= slots {
+        PrivateReason::NoSlot
+    } else if entry.offset >= pool {
+        PrivateReason::OutsideThePool
+    } else {
+        return Ok(());
     };
-    private_order(i, before, e)
+    Err(Refusal::PrivateCompositeLayoutInvalid(i as u64, u64::from(entry.slot), reason))
 }
 
-fn private_entries(t: &[u64]) -> Finding
-    ensures { found result ≡ private_test (length (slots_of t.now)) (table_header t.now).pool_bytes 0 none (privates_of t.now) }
+// Private entry i against the one before, if there is one.
+fn private_order(i: usize, before: Option<PrivateEntry>, entry: PrivateEntry) -> Result<(), Refusal>
+    ensures { found_in_none result ≡ order_test i (before_of before) (private_of entry) }
 {
-    let h = bytecode::header_at(t);
-    let pool = h.pool_bytes;
+    let reason = match before {
+        Some(before) if entry.slot <= before.slot => PrivateReason::SlotNotAbove,
+        Some(before) if entry.offset <= before.offset => PrivateReason::OffsetNotAbove,
+        _ => return Ok(()),
+    };
+    Err(Refusal::PrivateCompositeLayoutInvalid(i as u64, u64::from(entry.slot), reason))
+}
+
+fn private_entries(t: &[u64]) -> Result<(), Refusal>
+    ensures { found_in_none result ≡ private_test (length (slots_of t.now)) (table_header t.now).pool_bytes 0 none (privates_of t.now) }
+{
+    let pool = bytecode::header_at(t).pool_bytes;
     let slots = bytecode::count(t, bytecode::SLOTS);
-    let n = bytecode::count(t, bytecode::PRIVATE);
-    let mut before = Before::Nothing;
-    let mut i = 0;
-    while i < n {
-        let e = bytecode::private_at(t, i);
-        let r = private_one(slots, pool, i, before, e);
-        let Finding::Nothing = r else {
-            return r;
-        };
-        before = Before::Entry(e);
-        i += 1;
+    let mut before = None;
+    for i in 0..bytecode::count(t, bytecode::PRIVATE) {
+        let entry = bytecode::private_at(t, i);
+        private_entry(slots, pool, i, entry)?;
+        private_order(i, before, entry)?;
+        before = Some(entry);
     }
-    Finding::Nothing
+    Ok(())
 }
 
-pub fn validate_data_layout(t: &[u64]) -> Finding
-    ensures { found result ≡ layout_test (module_of t.now) }
+pub fn validate_data_layout(t: &[u64]) -> Result<(), Refusal>
+    ensures { found_in_none result ≡ layout_test (module_of t.now) }
 {
-    let counts = count_mismatch(t);
-    let Finding::Nothing = counts else {
-        return counts;
-    };
-    let shared = shared_slots(t);
-    let Finding::Nothing = shared else {
-        return shared;
-    };
+    count_mismatch(t)?;
+    shared_slots(t)?;
     private_entries(t)
 }

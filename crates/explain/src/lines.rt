@@ -1,293 +1,138 @@
-// The lines of a listing, any bytes: their sorts, and the line that an answer means.
-ghost use Rattle.std.specs.Prelude.{◌<◌, ◌≤◌};
+// The lines of a listing, any bytes: each with its line feed, which the last may lack.
+use std::fmt;
+use std::fmt::Write;
 
-use crate::put;
+// The sorts of lines that the check keeps in tables, and all others.
+#[derive(Clone, Copy, PartialEq, Eq)]
+pub enum Sort {
+    SlotShared,
+    SlotPrivate,
+    Shared,
+    Private,
+    Enum,
+    Native,
+    Sig,
+    Chunk,
+    Const,
+    Op,
+    Other,
+}
 
-const LF: u8 = b'\n';
+pub const SORTS: usize = Sort::Other as usize + 1;
 
-// The sorts of lines that the check keeps in tables, in the order of FORMS. Any other line is OTHER.
-const SLOT_SHARED: usize = 0;
-
-const SLOT_PRIVATE: usize = 1;
-
-pub const SHARED: usize = 2;
-
-pub const PRIVATE: usize = 3;
-
-const SIG: usize = 6;
-
-const CHUNK: usize = 7;
-
-pub const OP: usize = 9;
-
-const OTHER: usize = 10;
-
-// How the lines of each sort begin, 16 bytes to each, filled up with LF.
-const FORMS: [u8; 160] = *b"(slot shared)\n\n\n\
-    (slot private)\n\n\
-    (shared \n\n\n\n\n\n\n\n\
-    (private \n\n\n\n\n\n\n\
-    (enum \n\n\n\n\n\n\n\n\n\n\
-    (native \n\n\n\n\n\n\n\n\
-    (sig \n\n\n\n\n\n\n\n\n\n\n\
-    (chunk \n\n\n\n\n\n\n\n\n\
-    (const \n\n\n\n\n\n\n\n\n\
-    (op \n\n\n\n\n\n\n\n\n\n\n\n";
-
-// How many lines of each sort a listing may have; both sorts of slot share a table.
-const ROOMS: [usize; 11] = [
-    256,
-    256,
-    256,
-    256,
-    64,
-    64,
-    64,
-    64,
-    1024,
-    4096,
-    18446744073709551615,
+// How the lines of each sort begin.
+const FORMS: [(&[u8], Sort); 10] = [
+    (b"(slot shared)", Sort::SlotShared),
+    (b"(slot private)", Sort::SlotPrivate),
+    (b"(shared ", Sort::Shared),
+    (b"(private ", Sort::Private),
+    (b"(enum ", Sort::Enum),
+    (b"(native ", Sort::Native),
+    (b"(sig ", Sort::Sig),
+    (b"(chunk ", Sort::Chunk),
+    (b"(const ", Sort::Const),
+    (b"(op ", Sort::Op),
 ];
 
 // A sig line with 16 parameters opens 19 brackets: its own, two of its results, and those of the parameters.
 const MOST_BRACKETS: usize = 19;
 
-const MOST_LOCALS: usize = 32;
+const MOST_LOCALS: u32 = 32;
 
-// Where the instructions of the last chunk are counted, after the sorts.
-const HERE: usize = 11;
+// The most bytes of a line that are shown.
+const SHOWN: usize = 120;
 
-// The end of the line that begins at `from`: where its LF is, or the listing's end.
-pub fn end_of(listing: &[u8], from: usize) -> usize
-    ensures { from ≤ result }
-{
-    let mut i = from;
-    while i < listing.len() {
-        if listing[i] == LF {
-            return i;
-        }
-        i += 1;
+impl Sort {
+    pub fn of(line: &[u8]) -> Sort {
+        FORMS
+            .iter()
+            .find(|(form, _)| line.starts_with(*form))
+            .map_or(Sort::Other, |(_, sort)| *sort)
     }
-    i
-}
 
-pub fn is_printable(listing: &[u8], from: usize) -> bool {
-    let mut i = from;
-    while i < listing.len() {
-        let b = listing[i];
-        if b == LF {
-            return true;
-        }
-        if put::is_printable(b) {
-            i += 1;
-        } else {
-            return false;
+    // How many lines of it a listing may have, of both sorts of slot together.
+    pub fn room(self) -> Option<u64> {
+        match self {
+            Sort::SlotShared | Sort::SlotPrivate | Sort::Shared | Sort::Private => Some(256),
+            Sort::Enum | Sort::Native | Sort::Sig | Sort::Chunk => Some(64),
+            Sort::Const => Some(1024),
+            Sort::Op => Some(4096),
+            Sort::Other => None,
         }
     }
-    true
 }
 
-fn begins(listing: &[u8], from: usize, sort: usize) -> bool
-    requires { sort < 10 }
-{
-    let mut i = from;
-    let mut j = 0;
-    while j < 16 {
-        let b = FORMS[sort * 16 + j];
-        if b == LF {
-            return true;
-        }
-        if listing.len() <= i {
-            return false;
-        }
-        if listing[i] != b {
-            return false;
-        }
-        i += 1;
-        j += 1;
-    }
-    true
+pub fn is_line_feed(byte: &u8) -> bool {
+    *byte == b'\n'
 }
 
-pub fn sort_of(listing: &[u8], from: usize) -> usize
-    ensures { result ≤ 10 }
-{
-    let mut sort = 0;
-    while sort < OTHER {
-        if begins(listing, from, sort) {
-            return sort;
-        }
-        sort += 1;
-    }
-    OTHER
+// What a line may have, and a terminal be sent.
+fn is_printable(byte: u8) -> bool {
+    matches!(byte, b' '..=b'~')
 }
 
-// Of a sig line how many brackets it opens, of a chunk line the number of its locals, after one byte more. Large numbers stay.
-fn with_byte(n: usize, b: u8, sort: usize) -> usize {
-    if sort == SIG {
-        return put::counted(n, b == b'(');
-    }
-    if b < b'0' {
-        return n;
-    }
-    if b'9' < b {
-        return n;
-    }
-    if 65535 < n {
-        return n;
-    }
-    n * 10 + ((b - b'0') as usize)
-}
-
-fn value_of(listing: &[u8], from: usize, sort: usize) -> usize {
-    let mut n = 0;
-    let mut i = from;
-    while i < listing.len() {
-        let b = listing[i];
-        if b == LF {
-            return n;
-        }
-        n = with_byte(n, b, sort);
-        i += 1;
-    }
-    n
-}
-
-pub fn has_parameters_over(listing: &[u8], from: usize, sort: usize) -> bool {
-    if sort == SIG {
-        return MOST_BRACKETS < value_of(listing, from, SIG);
-    }
-    false
-}
-
-fn has_locals_over(listing: &[u8], from: usize, sort: usize) -> bool {
-    if sort == CHUNK {
-        return MOST_LOCALS < value_of(listing, from, CHUNK);
-    }
-    false
-}
-
-// How many lines of its sort a listing may have.
-pub fn room_of(sort: usize) -> usize
-    requires { sort ≤ 10 }
-{
-    ROOMS[sort]
-}
-
-fn overfills(listing: &[u8], from: usize, sort: usize, counts: &[usize; 12]) -> bool
-    requires { sort ≤ 10 }
-{
-    let room = room_of(sort);
-    if room <= counts[sort] {
-        return true;
-    }
-    if sort <= SLOT_PRIVATE {
-        return room - counts[sort] <= counts[1 - sort];
-    }
-    has_parameters_over(listing, from, sort)
-}
-
-// Which line an answer means.
 #[derive(Clone, Copy)]
-pub enum Wanted {
-    Nothing,
-    // the line after so many
-    Line(usize),
-    // of a chunk, an instruction
-    Instruction(usize, usize),
-    // of a sort, the line after so many of it
-    Entry(usize, usize),
-    // the first that overfills a table
-    Overfull,
-    // the first chunk with too many locals
-    Locals,
-    // the first shared slot after a private one
-    SharedLate,
+pub struct Line<'a> {
+    pub bytes: &'a [u8],
+    pub sort: Sort,
 }
 
-fn is_instruction(sort: usize, counts: &[usize; 12], chunk: usize, ip: usize) -> bool {
-    if sort != OP {
-        return false;
-    }
-    if counts[CHUNK] != put::after(chunk) {
-        return false;
-    }
-    counts[HERE] == ip
-}
-
-fn is_entry(sort: usize, counts: &[usize; 12], wanted: usize, index: usize) -> bool
-    requires { sort ≤ 10 }
-{
-    if sort != wanted {
-        return false;
-    }
-    counts[sort] == index
-}
-
-fn is_late(sort: usize, counts: &[usize; 12]) -> bool {
-    if sort != SLOT_SHARED {
-        return false;
-    }
-    0 < counts[SLOT_PRIVATE]
-}
-
-// The line at `from`, with the counts of the lines before it.
-fn is_wanted(
-    wanted: Wanted,
-    listing: &[u8],
-    from: usize,
-    lines: usize,
-    sort: usize,
-    counts: &[usize; 12],
-) -> bool
-    requires { sort ≤ 10 }
-{
-    match wanted {
-        Wanted::Nothing => false,
-        Wanted::Line(n) => lines == n,
-        Wanted::Instruction(chunk, ip) => is_instruction(sort, counts, chunk, ip),
-        Wanted::Entry(of, index) => is_entry(sort, counts, of, index),
-        Wanted::Overfull => overfills(listing, from, sort, counts),
-        Wanted::Locals => has_locals_over(listing, from, sort),
-        Wanted::SharedLate => is_late(sort, counts),
-    }
-}
-
-// The instructions of the last chunk, after a line.
-fn here_after(here: usize, sort: usize) -> usize {
-    if sort == CHUNK {
-        return 0;
-    }
-    put::counted(here, sort == OP)
-}
-
-// A line, counted from 1, and where it begins; line 0 where there is none.
-#[derive(Clone, Copy)]
-pub struct Place {
-    pub line: usize,
-    pub from: usize,
-}
-
-pub fn find(listing: &[u8], wanted: Wanted) -> Place {
-    let mut counts = [0usize; 12];
-    let mut lines = 0;
-    let mut from = 0;
-    while from < listing.len() {
-        let sort = sort_of(listing, from);
-        if is_wanted(wanted, listing, from, lines, sort, &counts) {
-            return Place {
-                line: put::after(lines),
-                from,
-            };
+impl<'a> Line<'a> {
+    pub fn new(bytes: &'a [u8]) -> Self {
+        Line {
+            bytes,
+            sort: Sort::of(bytes),
         }
-        let end = end_of(listing, from);
-        if listing.len() <= end {
-            return Place { line: 0, from: 0 };
-        }
-        counts[sort] = put::after(counts[sort]);
-        counts[HERE] = here_after(counts[HERE], sort);
-        lines = put::after(lines);
-        from = end + 1;
     }
-    Place { line: 0, from: 0 }
+
+    fn without_line_feed(&self) -> &'a [u8] {
+        self.bytes.strip_suffix(b"\n").unwrap_or(self.bytes)
+    }
+
+    pub fn is_printable(&self) -> bool {
+        let bytes = self.without_line_feed();
+        bytes.iter().copied().all(is_printable)
+    }
+
+    fn count_brackets(&self) -> usize {
+        self.bytes.iter().filter(|byte| **byte == b'(').count()
+    }
+
+    // Whether it is a sig line with more parameters than a signature may have.
+    pub fn has_parameters_over(&self) -> bool {
+        self.sort == Sort::Sig && MOST_BRACKETS < self.count_brackets()
+    }
+
+    // The number that all its digits make.
+    fn number(&self) -> u32 {
+        let digits = self.bytes.iter().filter(|byte| byte.is_ascii_digit());
+        digits.fold(0, |number: u32, digit| {
+            number
+                .saturating_mul(10)
+                .saturating_add(u32::from(*digit - b'0'))
+        })
+    }
+
+    // Whether it is a chunk line with more locals than a chunk may have.
+    pub fn has_locals_over(&self) -> bool {
+        self.sort == Sort::Chunk && MOST_LOCALS < self.number()
+    }
+}
+
+// As a terminal may be sent it, without its line feed; of a long line the first bytes and two dots.
+impl fmt::Display for Line<'_> {
+    fn fmt<W: fmt::Write>(&self, f: &mut fmt::Formatter<W>) -> fmt::Result {
+        let bytes = self.without_line_feed();
+        for byte in bytes.iter().copied().take(SHOWN) {
+            f.write_char(if is_printable(byte) {
+                char::from(byte)
+            } else {
+                '?'
+            })?;
+        }
+        if SHOWN < bytes.len() {
+            f.write_str("..")?;
+        }
+        Ok(())
+    }
 }

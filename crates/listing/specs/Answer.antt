@@ -1,10 +1,10 @@
 -- The answer of reading: 01's number and values for each case, and what the tables then mean.
-use Rattle.std.specs.Prelude.{◌≡◌, true, List, [], ◌∷◌, ℕ, length}
+use Rattle.std.specs.Prelude.{◌≡◌, true, List, ℕ, length}
 use Rattle.std.proofs.Common.{sym, ap, ◌∙◌}
 use Rattle.definition.specs.Basics.{Result, ok, refused}
 use Rattle.definition.specs.Format.{Bytes}
 use Rattle.definition.specs.Module.{Module, all_ops, chunks_of}
-use Rattle.definition.specs.Read.{Reader, read, limit}
+use Rattle.definition.specs.Read.{Reader, read}
 use Rattle.bytecode.specs.Held.{Held, lists}
 use Rattle.bytecode.specs.Meaning.{count, module_of, table_chunks}
 use Rattle.bytecode.specs.Fits.{ModuleFits}
@@ -12,14 +12,14 @@ use Rattle.bytecode.specs.Exact.{is_exact, held_exact}
 use Rattle.bytecode.specs.Bridge.{module_is, chunks_are, chunk_count, op_total}
 use Rattle.listing.specs.Reads.{ReadIs}
 use Rattle.listing.specs.Fitting.{read_fits}
-use Rattle.listing.specs.declared.Reading.{Reading}
-use Rattle.listing.specs.declared.Reading.TheVariants as R
+use Rattle.std.specs.Prelude.{Result as Outcome, Ok, Err}
+use Rattle.answer.specs.declared.Refusal.{Refusal}
+use Rattle.answer.specs.Answer.{numbers}
 
 -- "1 with the count of lines before it"; "2 carries ip (0 if none) and limit"; "All these carry chunk 0." A module that is read stands in the tables u.
-unfoldable pub result_of : Reading → List ℕ → Result Module
-result_of R.Module u = ok (module_of u)
-result_of (R.Line n) u = refused (1 ∷ 0 ∷ n ∷ [])
-result_of (R.Limit n) u = refused (limit n)
+unfoldable pub result_of : Outcome Unit Refusal → List ℕ → Result Module
+result_of (Ok done) u = ok (module_of u)
+result_of (Err r) u = refused (numbers 0 r)
 
 -- The tables' chunks are those of the module that they mean, and so are the counts; they say it exactly.
 pub record StandsIn (u : List ℕ) : Type 0 where
@@ -32,14 +32,13 @@ pub record StandsIn (u : List ℕ) : Type 0 where
   pub module_held : module_of u ≡ reader.so_far
   pub exact : is_exact u ≡ true
 
-unfoldable pub LeftIn : Reading → List ℕ → Type 0
-LeftIn R.Module u = StandsIn u
-LeftIn (R.Line n) u = Unit {0}
-LeftIn (R.Limit n) u = Unit {0}
+unfoldable pub LeftIn : Outcome Unit Refusal → List ℕ → Type 0
+LeftIn (Ok done) u = StandsIn u
+LeftIn (Err r) u = Unit {0}
 
-pub answered : (s : Bytes) (r : Reading) (u : List ℕ) → ReadIs (read s) r u → (read s ≡ result_of r u) × LeftIn r u
+pub answered : (s : Bytes) (r : Outcome Unit Refusal) (u : List ℕ) → ReadIs (read s) r u → (read s ≡ result_of r u) × LeftIn r u
 unfolding ReadIs result_of LeftIn
-answered s R.Module u x =
+answered s (Ok done) u x =
     let fit : ModuleFits x.0.so_far = read_fits s x.0.so_far x.1 in
     let e : module_of u ≡ x.0.so_far = module_is u x.0 x.3 fit x.2 in (
       x.1 ∙ ap ok (sym e),
@@ -54,5 +53,4 @@ answered s R.Module u x =
         exact = held_exact u x.0 x.3 x.2 fit e;
       },
     )
-answered s (R.Line n) u x = (x, tt)
-answered s (R.Limit n) u x = (x, tt)
+answered s (Err r) u x = (x, tt)

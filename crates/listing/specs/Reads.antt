@@ -12,20 +12,22 @@ use Rattle.std.proofs.Math.Seq.{take-suc}
 use Rattle.definition.specs.Basics.{Result, ok, refused, ◌>>=◌, unless, pass}
 use Rattle.definition.specs.Format.{Bytes, provided}
 use Rattle.definition.specs.Module.{Module, all_consts, all_ops}
-use Rattle.definition.specs.Read.{Lines, line, end, byte_before, cut, Reader, at_start, or_line, next_line, is_empty, read_lines, read, limit}
+use Rattle.definition.specs.Read.{Lines, line, end, byte_before, cut, Reader, at_start, or_line, next_line, is_empty, read_lines, read}
 use Rattle.bytecode.specs.Tables.{size, table, rows, eq_or}
 use Rattle.bytecode.specs.Held.{Held, lists, Sound, header_rows, chunk_rows}
 use Rattle.listing.specs.Step.{StepIs}
-use Rattle.listing.specs.declared.Reading.{Reading}
-use Rattle.listing.specs.declared.Reading.TheVariants as R
+use Rattle.std.specs.Prelude.{Result as Outcome, Ok, Err}
+use Rattle.answer.specs.declared.Refusal.{Refusal}
+use Rattle.answer.specs.declared.Refusal.TheVariants.{CannotFollow, LimitPassed}
+use Rattle.answer.specs.declared.limit.Limit.TheVariants as Limits
+use Rattle.answer.specs.Answer.{numbers, with_chunk, fields}
 use Rattle.listing.specs.declared.Step.{Step}
 use Rattle.listing.specs.declared.Step.TheVariants.{On, Wrong, Full, Locals}
 
 -- 01's number and values of a refusal; where a module is read, the tables u hold it.
-unfoldable pub ReadIs : Result Module → Reading → List ℕ → Type 0
-ReadIs res R.Module u = (q : Reader) × (res ≡ ok q.so_far) × (1 ≤ q.place) × Held u (lists q)
-ReadIs res (R.Line n) u = res ≡ refused (1 ∷ 0 ∷ n ∷ [])
-ReadIs res (R.Limit n) u = res ≡ refused (limit n)
+unfoldable pub ReadIs : Result Module → Outcome Unit Refusal → List ℕ → Type 0
+ReadIs res (Ok done) u = (q : Reader) × (res ≡ ok q.so_far) × (1 ≤ q.place) × Held u (lists q)
+ReadIs res (Err r) u = res ≡ refused (numbers 0 r)
 
 unfoldable pub read_all : Bytes → Result Module
 read_all s = read_lines 0 at_start (cut s)
@@ -187,8 +189,8 @@ going_start s t h =
     record { reader = at_start; place_is = refl; held = h; sound = start_sound; left = refl; in_bytes = omega arith; few = omega arith }
 
 module _ (s t : List ℕ) (place lines at : ℕ) (g : Going s t place lines at) where
-  pub no_lf : (e : ℕ) → LineEnd s at e → at < length s → length s ≤ e → (u : List ℕ) → ReadIs (read_all s) (R.Line lines) u
-  unfolding ReadIs read_lines or_line provided is_empty
+  pub no_lf : (e : ℕ) → LineEnd s at e → at < length s → length s ≤ e → (u : List ℕ) → ReadIs (read_all s) (Err (CannotFollow lines)) u
+  unfolding ReadIs numbers with_chunk fields read_lines or_line provided is_empty
   no_lf e le h l u =
       g.left ∙ ap (read_lines lines g.reader) (le.none_left l)
       ∙ ap (λ (x : Bytes). or_line lines (provided (eqb g.reader.place 10 && is_empty x) g.reader.so_far)) (drop-cons s at 0 h)
@@ -202,8 +204,8 @@ module _ (s t : List ℕ) (place lines at : ℕ) (g : Going s t place lines at) 
   unfolding read_lines cut is_empty
   ended h = g.left ∙ ap (λ (x : Bytes). read_lines lines g.reader (cut x)) (drop_of_length-le s {i = at} h)
 
-  pub all_read : length s ≤ at → place ≡ 10 → ReadIs (read_all s) R.Module t
-  unfolding ReadIs or_line provided
+  pub all_read : length s ≤ at → place ≡ 10 → ReadIs (read_all s) (Ok tt) t
+  unfolding ReadIs numbers with_chunk fields or_line provided
   all_read h p = (
     g.reader,
     ended h ∙ (rw (eq-eqb g.reader.place 10 (g.place_is ∙ p))),
@@ -211,8 +213,8 @@ module _ (s t : List ℕ) (place lines at : ℕ) (g : Going s t place lines at) 
     g.held,
   )
 
-  pub end_missing : length s ≤ at → (place ≡ 10 → ⊥) → (u : List ℕ) → ReadIs (read_all s) (R.Line lines) u
-  unfolding ReadIs or_line provided
+  pub end_missing : length s ≤ at → (place ≡ 10 → ⊥) → (u : List ℕ) → ReadIs (read_all s) (Err (CannotFollow lines)) u
+  unfolding ReadIs numbers with_chunk fields or_line provided
   end_missing h n u = ended h ∙ (rw (ne_eqb g.reader.place 10 (λ e. n (sym g.place_is ∙ e))))
 
   module _ (e : ℕ) (le : LineEnd s at e) (h : e < length s) where
@@ -228,20 +230,20 @@ module _ (s t : List ℕ) (place lines at : ℕ) (g : Going s t place lines at) 
       abbrev stepped : StepIs lines (next_line lines g.reader this) st u
       stepped = f lines g.reader g.place_is g.held g.sound
 
-      pub line_wrong : st ≡ Wrong → (v : List ℕ) → ReadIs (read_all s) (R.Line lines) v
-      unfolding ReadIs StepIs ◌>>=◌
+      pub line_wrong : st ≡ Wrong → (v : List ℕ) → ReadIs (read_all s) (Err (CannotFollow lines)) v
+      unfolding ReadIs numbers with_chunk fields StepIs ◌>>=◌
       line_wrong x v =
           let d : next_line lines g.reader this ≡ refused (1 ∷ 0 ∷ lines ∷ []) = subst (λ (y : Step). StepIs lines (next_line lines g.reader this) y u) x stepped in
           first_line_of ∙ (rw d)
 
-      pub line_full : st ≡ Full → (v : List ℕ) → ReadIs (read_all s) (R.Limit 2) v
-      unfolding ReadIs StepIs ◌>>=◌
+      pub line_full : st ≡ Full → (v : List ℕ) → ReadIs (read_all s) (Err (LimitPassed 0 Limits.Table)) v
+      unfolding ReadIs numbers with_chunk fields StepIs ◌>>=◌
       line_full x v =
           let d : next_line lines g.reader this ≡ refused (2 ∷ 0 ∷ 0 ∷ 2 ∷ []) = subst (λ (y : Step). StepIs lines (next_line lines g.reader this) y u) x stepped in
           first_line_of ∙ (rw d)
 
-      pub line_locals : st ≡ Locals → (v : List ℕ) → ReadIs (read_all s) (R.Limit 3) v
-      unfolding ReadIs StepIs ◌>>=◌
+      pub line_locals : st ≡ Locals → (v : List ℕ) → ReadIs (read_all s) (Err (LimitPassed 0 Limits.Locals)) v
+      unfolding ReadIs numbers with_chunk fields StepIs ◌>>=◌
       line_locals x v =
           let d : next_line lines g.reader this ≡ refused (2 ∷ 0 ∷ 0 ∷ 3 ∷ []) = subst (λ (y : Step). StepIs lines (next_line lines g.reader this) y u) x stepped in
           first_line_of ∙ (rw d)
@@ -267,9 +269,9 @@ pub read_fine : (s : Bytes) → length s ≤ 65536 → read s ≡ read_all s
 unfolding read read_all pass unless ◌>>=◌
 read_fine s h = rw (le-leb (length s) 65536 h)
 
-pub read_long : (s : Bytes) → 65536 < length s → (u : List ℕ) → ReadIs (read s) (R.Limit 1) u
-unfolding ReadIs read pass unless ◌>>=◌
+pub read_long : (s : Bytes) → 65536 < length s → (u : List ℕ) → ReadIs (read s) (Err (LimitPassed 0 Limits.Bytes)) u
+unfolding ReadIs numbers with_chunk fields read pass unless ◌>>=◌
 read_long s h u = rw (lt-leb (length s) 65536 h)
 
-pub read_short : (s : Bytes) → length s ≤ 65536 → (r : Reading) (u : List ℕ) → ReadIs (read_all s) r u → ReadIs (read s) r u
+pub read_short : (s : Bytes) → length s ≤ 65536 → (r : Outcome Unit Refusal) (u : List ℕ) → ReadIs (read_all s) r u → ReadIs (read s) r u
 read_short s h r u x = subst (λ (y : Result Module). ReadIs y r u) (sym (read_fine s h)) x

@@ -27,11 +27,13 @@ ghost use Rattle.listing.specs.Rows.{Rowed, Stored, left, shapes_over, value_at,
 ghost use Rattle.listing.specs.Shape.{end_at, top_at, scalar_at, flat_at};
 ghost use Rattle.listing.specs.Num.{number_of, after, at_most};
 
-use answer::limit;
+use answer::Refusal;
+use answer::limit::Limit;
 use bytecode::ops;
 use bytecode::ops::Found;
 
 pub mod form;
+mod limit;
 mod place;
 pub mod sort;
 pub mod words;
@@ -884,14 +886,6 @@ fn line_end(s: &[u8], at: usize) -> usize
     i
 }
 
-// What reading a listing gives: its module is in the tables; or a line cannot follow, after so many others, or the end is missing; or a limit.
-#[derive(Clone, Copy)]
-pub enum Reading {
-    Module,
-    Line(u64),
-    Limit(u64),
-}
-
 // No table has a row.
 fn clear(t: &mut [u64])
     requires { length t.old ≡ size }
@@ -905,7 +899,7 @@ fn clear(t: &mut [u64])
 }
 
 // Lines from the first on, each after the tables of those before it.
-fn read_lines(names: &[u64; 781], s: &[u8], t: &mut [u64]) -> Reading
+fn read_lines(names: &[u64; 781], s: &[u8], t: &mut [u64]) -> Result<(), Refusal>
     requires { (length s.now ≤ 65536) × Held t.old (lists at_start) × (names.now ≡ name_table) }
     ensures { ReadIs (read_all s.now) result t.new }
 {
@@ -915,7 +909,7 @@ fn read_lines(names: &[u64; 781], s: &[u8], t: &mut [u64]) -> Reading
     while at < s.len() {
         let e = line_end(s, at);
         if s.len() <= e {
-            return Reading::Line(lines);
+            return Err(Refusal::CannotFollow(lines));
         }
         let step = one_line(names, t, place, &s[at..e]);
         match step {
@@ -925,28 +919,28 @@ fn read_lines(names: &[u64; 781], s: &[u8], t: &mut [u64]) -> Reading
                 at = e + 1;
             }
             Step::Wrong => {
-                return Reading::Line(lines);
+                return Err(Refusal::CannotFollow(lines));
             }
             Step::Full => {
-                return Reading::Limit(limit::TABLE);
+                return Err(Refusal::LimitPassed(0, Limit::Table));
             }
             Step::Locals => {
-                return Reading::Limit(limit::LOCALS);
+                return Err(Refusal::LimitPassed(0, Limit::Locals));
             }
         }
     }
     if place == place::END {
-        return Reading::Module;
+        return Ok(());
     }
-    Reading::Line(lines)
+    Err(Refusal::CannotFollow(lines))
 }
 
-// Reads a listing into lent tables, whatever they hold.
-pub fn read(s: &[u8], t: &mut [u64; 22232]) -> Reading
+// Reads a listing into lent tables, whatever they hold: its module is in them, or a line cannot follow, after so many others, or the end is missing, or a limit is passed.
+pub fn read(s: &[u8], t: &mut [u64; 22232]) -> Result<(), Refusal>
     ensures { (read_listing s.now ≡ result_of result t.new) × LeftIn result t.new }
 {
     if 65536 < s.len() {
-        return Reading::Limit(limit::BYTES);
+        return Err(Refusal::LimitPassed(0, Limit::Bytes));
     }
     clear(t);
     let names = ops::names();

@@ -4,7 +4,7 @@
 
 ghost use Rattle.std.specs.Prelude.{◌≡◌, ◌+◌, ◌-◌, ◌≤◌, ◌<◌, IfOk, length};
 
-use listing::Reading;
+use bytecode::{CHUNKS, INSTRUCTIONS, SIZE};
 use std::io;
 use std::io::{Read, Write};
 
@@ -12,37 +12,24 @@ fn print(rt: &impl Print, text: &[u8]) -> io::Result<()> {
     io::writer(rt).write_all(text)
 }
 
-fn print_number(rt: &impl Print, n: u64) -> io::Result<()> {
-    print!(rt; " {n}")
-}
-
-fn print_count(rt: &impl Print, t: &[u64; 22232], k: usize) -> io::Result<()>
-    requires { k < 10 }
-{
-    let n = bytecode::count(t, k);
-    print_number(rt, n as u64)
-}
-
-// What reading the listing gives: the counts of its chunks and instructions, or the refusal.
+// What reading the listing gives: the counts of its chunks and instructions, or the refusal's numbers.
 fn report(rt: &impl Print, s: &[u8]) -> io::Result<()> {
-    let mut tables = [0u64; 22232];
-    let r = listing::read(s, &mut tables);
-    match r {
-        Reading::Module => {
-            print(rt, b"read")?;
-            print_count(rt, &tables, 7)?;
-            print_count(rt, &tables, 9)?;
+    let mut tables = [0; SIZE];
+    match listing::read(s, &mut tables) {
+        Ok(()) => {
+            let chunks = bytecode::count(&tables, CHUNKS);
+            let instructions = bytecode::count(&tables, INSTRUCTIONS);
+            println!(rt; "read {chunks} {instructions}")
         }
-        Reading::Line(n) => {
-            print(rt, b"refused 1 0")?;
-            print_number(rt, n)?;
-        }
-        Reading::Limit(k) => {
-            print(rt, b"refused 2 0 0")?;
-            print_number(rt, k)?;
+        Err(refusal) => {
+            let numbers = refusal.numbers(0);
+            print!(rt; "refused")?;
+            for number in numbers.words.iter().take(numbers.count) {
+                print!(rt; " {number}")?;
+            }
+            println!(rt)
         }
     }
-    print(rt, b"\n")
 }
 
 fn line_end(s: &[u8], at: usize) -> usize

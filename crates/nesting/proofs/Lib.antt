@@ -6,4 +6,3 @@ pub mod Laws
 pub mod Parts
 pub mod Walk
 pub mod All
-pub mod Found

@@ -1,14 +1,10 @@
--- Lines: their parts, their length, and those of a chunk or of all chunks one by one. Assumes nothing.
-use mathlib.Core.Path.{◌≡◌, refl, sym, ap}
-use mathlib.Core.List.{List, [], ◌∷◌, ◌++◌, map}
-use Prim.Native.Nat.{ℕ, zero, suc, ◌+◌, ◌-◌, ◌≤◌, ◌<◌}
-use native.Mathlib.Omega.{arith}
-use native.Mathlib.Nat.{sub-zero}
-use native.Mathlib.Numerals.{add-one}
-use lib.ListN.{length, get_or, drop, length-append, drop_of_length-le}
-use lib.Seq.{drop-cons}
+-- Lines: their words, those of a chunk or of all chunks one after another, and their length. Assumes nothing.
+use Rattle.std.proofs.Common.{◌≡◌, refl, sym, ap, ◌∙◌, ℕ, zero, suc, ◌+◌, ◌-◌, ◌*◌, ◌^◌, ◌≤◌, ◌<◌, List, [], ◌∷◌, ◌++◌, map, take, length, get_or, arith, append_assoc, append-nil, length-append, add-zero, zero-add, add-one}
+use Rattle.std.proofs.Math.Nat.{sub-zero}
+use Rattle.std.specs.List.{flat_map}
+use Rattle.std.proofs.lemmas.List.{take_more, flat_map_more}
 use Rattle.definition.specs.Format.{Bytes, bytes, decimal}
-use Rattle.definition.specs.Module.{all_ops}
+use Rattle.definition.specs.Module.{Code, all_ops}
 use Rattle.definition.specs.Check.{Answer, Checked}
 use Rattle.definition.specs.Printed.{words, height_word, blind_word, print_ops, print_chunks, sizes, print_answer}
 use Rattle.theorems.specs.Decimal.{decimal_short}
@@ -16,122 +12,91 @@ use Rattle.bytecode.specs.Tables.{cap}
 use Rattle.bytecode.specs.Lists.{tabulate, tabulate-length}
 use Rattle.bytecode.specs.Meaning.{count, op_at, code_of, module_of, first_op, op_count, count_low}
 use Rattle.sheets.specs.Totals.{chunks_counted}
-use Rattle.printed.specs.Texts.{header, line, of_sheets, acceptance, accepted_text}
+use Rattle.text_out.specs.declared.Text.{Text}
+use Rattle.text_out.specs.Text.{with_text}
+use Rattle.text_out.proofs.Laws.{with_text_append}
+use Rattle.printed.specs.Texts.{numbered, header, line, of_sheets, acceptance, accepted_text}
 
 -- ── Words ─────────────────────────────────────────────────────────────────────────────────
 
--- the words after the first, each with the space before it, and LF
-pub spaced : List Bytes → Bytes
-spaced [] = 10 ∷ []
-spaced (w ∷ ws) = 32 ∷ (w ++ spaced ws)
+pub words_numbered : (w : Bytes) (ns : List ℕ) → words (w ∷ map decimal ns) ≡ w ++ (flat_map numbered ns ++ 10 ∷ [])
+unfolding words
+words_numbered w [] = refl
+words_numbered w (n ∷ ns) =
+    ap (λ (l : Bytes). w ++ (32 ∷ l)) (words_numbered (decimal n) ns ∙ sym (append_assoc (decimal n) (flat_map numbered ns) (10 ∷ [])))
 
-pub words-spaced : (w : Bytes) (ws : List Bytes) → words (w ∷ ws) ≡ w ++ spaced ws
-unfolding words spaced
-words-spaced w [] = refl
-words-spaced w (v ∷ vs) = ap (λ (l : Bytes). w ++ (32 ∷ l)) (words-spaced v vs)
+pub with_more_numbers : (t : Text) (ns : List ℕ) (i : ℕ) → i < length ns → with_text t (flat_map numbered (take (i + 1) ns)) ≡ with_text (with_text t (flat_map numbered (take i ns))) (numbered (get_or ns i 0))
+with_more_numbers t ns i h =
+    ap (λ (l : List ℕ). with_text t (flat_map numbered l)) (take_more ns i 0 h)
+    ∙ ap (with_text t) (sym (flat_map_more numbered [] (take i ns) (get_or ns i 0)))
+    ∙ with_text_append t (flat_map numbered (take i ns)) (numbered (get_or ns i 0))
 
--- the numbers from i on, each after a space, and LF
-pub numbers-left : List ℕ → ℕ → Bytes
-numbers-left ns i = spaced (map decimal (drop i ns))
+-- a number of 64 bits has at most 20 digits
+pub numbers_short : (ns : List ℕ) → ((i : ℕ) → get_or ns i 0 < 2 ^ 64) → length (flat_map numbered ns) ≤ 21 * length ns
+numbers_short [] f = omega arith
+numbers_short (n ∷ ns) f =
+    omega (arith, length-append (decimal n) (flat_map numbered ns), decimal_short 19 n (omega (arith, f 0)), numbers_short ns (λ i. f (suc i)))
 
-module _ (ns : List ℕ) where
-  pub numbers_begun : (w : Bytes) → words (w ∷ map decimal ns) ≡ w ++ numbers-left ns 0
-  unfolding numbers-left
-  numbers_begun w = words-spaced w (map decimal ns)
+pub refused_short : (ns : List ℕ) → length ns ≤ 8 → ((i : ℕ) → get_or ns i 0 < 2 ^ 64) → length (words (bytes "refused" ∷ map decimal ns)) ≤ 73746
+unfolding bytes
+refused_short ns l f =
+    omega (arith, ap length (words_numbered (bytes "refused") ns), length-append (flat_map numbered ns) (10 ∷ []), numbers_short ns f)
 
-  pub numbers_more : (i : ℕ) → i < length ns → numbers-left ns i ≡ (32 ∷ decimal (get_or ns i 0)) ++ numbers-left ns (i + 1)
-  unfolding numbers-left spaced
-  numbers_more i l = rw (add-one i, drop-cons ns i 0 l)
-
-  pub numbers_none : (i : ℕ) → length ns ≤ i → numbers-left ns i ≡ 10 ∷ []
-  unfolding numbers-left spaced
-  numbers_none i l = rw (drop_of_length-le ns l)
-
-pub height_none : (h : ℕ) → h ≡ 0 → height_word h ≡ 45 ∷ []
+pub height_none : (e : ℕ) → e < 1 → height_word e ≡ 45 ∷ []
 unfolding height_word bytes
-height_none zero e = refl
-height_none (suc h) e = absurd (omega arith)
+height_none zero h = refl
+height_none (suc e) h = absurd (omega arith)
 
-pub height_some : (h : ℕ) → (h ≡ 0 → ⊥) → height_word h ≡ decimal (h - 1)
+pub height_some : (e : ℕ) → 1 ≤ e → height_word e ≡ decimal (e - 1)
 unfolding height_word
-height_some zero n = absurd (n refl)
-height_some (suc h) n = ap decimal (let z : h ≡ suc h - 1 = omega arith in z)
+height_some zero h = absurd (omega arith)
+height_some (suc e) h = ap decimal (let z : e ≡ suc e - 1 = omega arith in z)
 
-pub plain_word : (b : ℕ) → b ≡ 0 → blind_word b ≡ bytes "plain"
+pub blind_none : (e : ℕ) → e ≡ 0 → blind_word e ≡ bytes "plain"
 unfolding blind_word
-plain_word zero e = refl
-plain_word (suc b) e = absurd (omega arith)
+blind_none zero h = refl
+blind_none (suc e) h = absurd (omega arith)
 
-pub marked_word : (b : ℕ) → (b ≡ 0 → ⊥) → blind_word b ≡ bytes "blind"
+pub blind_some : (e : ℕ) → (e ≡ 0 → ⊥) → blind_word e ≡ bytes "blind"
 unfolding blind_word
-marked_word zero n = absurd (n refl)
-marked_word (suc b) n = refl
+blind_some zero h = absurd (h refl)
+blind_some (suc e) h = refl
 
--- ── Lengths ───────────────────────────────────────────────────────────────────────────────
+-- ── One after another ─────────────────────────────────────────────────────────────────────
 
-pub height_short : (h : ℕ) → h < 256 → length (height_word h) ≤ 3
-unfolding height_word bytes
-height_short zero l = omega arith
-height_short (suc h) l = decimal_short 2 h (omega arith)
+module _ (hs bs : List ℕ) where
+  abbrev op_line : ℕ → ℕ → ℕ → Bytes
+  op_line k base i = line k i (get_or hs (base + i) 0) (get_or bs (base + i) 0)
 
-pub blind_long : (b : ℕ) → length (blind_word b) ≡ 5
-unfolding blind_word bytes
-blind_long zero = refl
-blind_long (suc b) = refl
+  abbrev ops_lines : ℕ → ℕ → ℕ → ℕ → Bytes
+  ops_lines = print_ops (of_sheets hs bs)
 
-pub line_long : (k i h b : ℕ) → length (line k i h b) ≡ length (decimal k) + (length (decimal i) + (length (height_word h) + 9))
-unfolding line words
-line_long k i h b = simp (length-append, blind_long) (omega arith)
+  ops_from : (k base i n : ℕ) → ops_lines k base i (suc n) ≡ ops_lines k base i n ++ op_line k base (i + n)
+  unfolding print_ops of_sheets line
+  ops_from k base i zero = rw (add-zero i, append-nil)
+  ops_from k base i (suc n) =
+      let e : suc i + n ≡ i + suc n = omega arith in
+      ap (λ (l : Bytes). op_line k base i ++ l) (ops_from k base (suc i) n ∙ ap (λ (m : ℕ). ops_lines k base (suc i) n ++ op_line k base m) e)
+      ∙ sym (append_assoc (op_line k base i) (ops_lines k base (suc i) n) (op_line k base (i + suc n)))
 
-pub line_short : (k i h b : ℕ) → k < 64 → i < 4096 → h < 256 → length (line k i h b) ≤ 18
-line_short k i h b p q r =
-    omega (arith, line_long k i h b, decimal_short 1 k (omega arith), decimal_short 3 i (omega arith), height_short h r)
+  pub with_more_ops : (t : Text) (k base i : ℕ) → with_text t (print_ops (of_sheets hs bs) k base 0 (i + 1))
+      ≡ with_text (with_text t (print_ops (of_sheets hs bs) k base 0 i)) (line k i (get_or hs (base + i) 0) (get_or bs (base + i) 0))
+  with_more_ops t k base i =
+      ap (λ (n : ℕ). with_text t (ops_lines k base 0 n)) (add-one i)
+      ∙ ap (with_text t) (ops_from k base 0 i ∙ ap (λ (m : ℕ). ops_lines k base 0 i ++ op_line k base m) (zero-add i))
+      ∙ with_text_append t (ops_lines k base 0 i) (op_line k base i)
 
-pub header_long : (c n : ℕ) → length (header c n) ≡ length (decimal c) + (length (decimal n) + 11)
-unfolding header words bytes
-header_long c n = simp length-append (omega arith)
-
-pub header_short : (t : List ℕ) (c n : ℕ) → c ≡ count t 7 → n ≤ 4096 → length (header c n) ≤ 18
-unfolding cap
-header_short t c n e l =
-    omega (arith, header_long c n, count_low t 7, decimal_short 1 c (omega (arith, count_low t 7)), decimal_short 3 n (omega arith))
-
--- ── The lines of a chunk ──────────────────────────────────────────────────────────────────
-
-module _ (hs bs : List ℕ) (k base n : ℕ) where
-  -- those from index i on
-  pub ops_left : ℕ → Bytes
-  ops_left i = print_ops (of_sheets hs bs) k base i (n - i)
-
-  pub ops_begun : print_ops (of_sheets hs bs) k base 0 n ≡ ops_left 0
-  unfolding ops_left
-  ops_begun = ap (print_ops (of_sheets hs bs) k base 0) (sym (sub-zero n))
-
-  module _ (i : ℕ) where
-    pub ops_more : (h b : ℕ) → h ≡ get_or hs (base + i) 0 → b ≡ get_or bs (base + i) 0 → i < n → ops_left i ≡ line k i h b ++ ops_left (i + 1)
-    unfolding ops_left print_ops of_sheets line
-    ops_more h b e f l =
-        let z : n - i ≡ suc (n - (i + 1)) = omega arith in
-        rw (z, e, f, add-one i, print_ops)
-
-    pub ops_none : n ≤ i → ops_left i ≡ []
-    unfolding ops_left print_ops
-    ops_none l = let z : n - i ≡ 0 = omega arith in rw (z, print_ops)
-
--- ── The lines of all chunks ───────────────────────────────────────────────────────────────
-
+-- The lines of the chunks from number k on, whose entries begin at `base`.
 module _ (t hs bs : List ℕ) where
-  -- those from chunk k on, whose entries begin at `base`
-  pub chunks_left : ℕ → ℕ → Bytes
+  unfoldable pub chunks_left : ℕ → ℕ → Bytes
   chunks_left k base = print_chunks (of_sheets hs bs) k base (sizes (tabulate k (count t 7 - k) (code_of t)))
 
-  pub chunks_begun : print_chunks (of_sheets hs bs) 0 0 (sizes (module_of t).chunks) ≡ chunks_left 0 0
+  pub chunks_all : print_chunks (of_sheets hs bs) 0 0 (sizes (module_of t).chunks) ≡ chunks_left 0 0
   unfolding chunks_left module_of
-  chunks_begun = ap (λ (n : ℕ). print_chunks (of_sheets hs bs) 0 0 (sizes (tabulate 0 n (code_of t)))) (sym (sub-zero (count t 7)))
+  chunks_all = ap (λ (n : ℕ). print_chunks (of_sheets hs bs) 0 0 (sizes (tabulate 0 n (code_of t)))) (sym (sub-zero (count t 7)))
 
   module _ (k base : ℕ) where
-    pub chunks_more : (n : ℕ) → n ≡ op_count t k → k < count t 7
-        → chunks_left k base ≡ print_ops (of_sheets hs bs) k base 0 n ++ chunks_left (k + 1) (base + n)
+    pub chunks_more : (n : ℕ) → n ≡ op_count t k → k < count t 7 → chunks_left k base ≡ print_ops (of_sheets hs bs) k base 0 n ++ chunks_left (k + 1) (base + n)
     unfolding chunks_left tabulate sizes print_chunks code_of
     chunks_more n e l =
         let z : count t 7 - k ≡ suc (count t 7 - (k + 1)) = omega arith in
@@ -140,6 +105,47 @@ module _ (t hs bs : List ℕ) where
     pub chunks_none : count t 7 ≤ k → chunks_left k base ≡ []
     unfolding chunks_left tabulate sizes print_chunks
     chunks_none l = let z : count t 7 - k ≡ 0 = omega arith in rw (z, tabulate)
+
+-- ── Lengths ───────────────────────────────────────────────────────────────────────────────
+
+height_short : (e : ℕ) → e < 256 → length (height_word e) ≤ 3
+unfolding height_word bytes
+height_short zero l = omega arith
+height_short (suc e) l = decimal_short 2 e (omega arith)
+
+blind_long : (e : ℕ) → length (blind_word e) ≡ 5
+unfolding blind_word bytes
+blind_long zero = refl
+blind_long (suc e) = refl
+
+line_short : (k i h b : ℕ) → k < 64 → i < 4096 → h < 256 → length (line k i h b) ≤ 18
+unfolding line words
+line_short k i h b p q r =
+    simp (length-append, blind_long)
+    (omega (arith, decimal_short 1 k (omega arith), decimal_short 3 i (omega arith), height_short h r))
+
+header_short : (c n : ℕ) → c ≤ 64 → n ≤ 4096 → length (header c n) ≤ 18
+unfolding header words bytes
+header_short c n p q = simp length-append (omega (arith, decimal_short 1 c (omega arith), decimal_short 3 n (omega arith)))
+
+module _ (hs bs : List ℕ) (low : (j : ℕ) → get_or hs j 0 < 256) where
+  ops_short : (k base i n : ℕ) → k < 64 → i + n ≤ 4096 → length (print_ops (of_sheets hs bs) k base i n) ≤ 18 * n
+  unfolding print_ops of_sheets line
+  ops_short k base i zero p q = omega arith
+  ops_short k base i (suc n) p q =
+      let h = get_or hs (base + i) 0 in
+      let b = get_or bs (base + i) 0 in
+      omega (arith, length-append (line k i h b) (print_ops (of_sheets hs bs) k base (suc i) n), line_short k i h b p (omega arith) (low (base + i)), ops_short k base (suc i) n p (omega arith))
+
+  chunks_short : (k base : ℕ) (cs : List Code) → k + length cs ≤ 64 → length (all_ops cs) ≤ 4096 → length (print_chunks (of_sheets hs bs) k base (sizes cs)) ≤ 18 * length (all_ops cs)
+  unfolding print_chunks sizes all_ops
+  chunks_short k base [] p q = omega arith
+  chunks_short k base (c ∷ cs) p q =
+      let n = length c.ops in
+      let s = length-append c.ops (all_ops cs) in
+      omega (arith, s, length-append (print_ops (of_sheets hs bs) k base 0 n) (print_chunks (of_sheets hs bs) (suc k) (base + n) (sizes cs)), ops_short k base 0 n (omega arith) (omega (arith, s)), chunks_short (suc k) (base + n) cs (omega arith) (omega (arith, s)))
+
+-- ── The whole text ────────────────────────────────────────────────────────────────────────
 
 -- The lines depend on the sheets alone.
 module _ (a : Answer) (hs bs : List ℕ) where
@@ -151,20 +157,25 @@ module _ (a : Answer) (hs bs : List ℕ) where
   ops_alone k base i zero = refl
   ops_alone k base i (suc n) = ap (λ (t : Bytes). line k i (get_or hs (base + i) 0) (get_or bs (base + i) 0) ++ t) (ops_alone k base (suc i) n)
 
-  pub chunks_alone : (k base : ℕ) (ns : List ℕ) → print_chunks answered k base ns ≡ print_chunks (of_sheets hs bs) k base ns
+  chunks_alone : (k base : ℕ) (ns : List ℕ) → print_chunks answered k base ns ≡ print_chunks (of_sheets hs bs) k base ns
   unfolding print_chunks
   chunks_alone k base [] = refl
   chunks_alone k base (n ∷ ns) = rw (ops_alone k base 0 n, chunks_alone (suc k) (base + n) ns)
 
--- ── The whole text ────────────────────────────────────────────────────────────────────────
+module _ (t hs bs : List ℕ) (c n : ℕ) (e : c ≡ count t 7) (f : n ≡ length (all_ops (module_of t).chunks)) where
+  pub accepted_parts : header c n ++ print_chunks (of_sheets hs bs) 0 0 (sizes (module_of t).chunks) ≡ accepted_text t hs bs
+  unfolding accepted_text acceptance print_answer header
+  accepted_parts = rw (e, f, ← (chunks_counted t), ← (chunks_alone (acceptance t) hs bs 0 0 (sizes (module_of t).chunks)))
 
-pub accepted_parts : (t hs bs : List ℕ) (c n : ℕ) → c ≡ count t 7 → n ≡ length (all_ops (module_of t).chunks)
-    → header c n ++ print_chunks (of_sheets hs bs) 0 0 (sizes (module_of t).chunks) ≡ accepted_text t hs bs
-unfolding accepted_text acceptance print_answer header
-accepted_parts t hs bs c n e f =
-    rw (
-      e,
-      f,
-      ← (chunks_counted t),
-      ← (chunks_alone (acceptance t) hs bs 0 0 (sizes (module_of t).chunks)),
-    )
+  pub accepted_short : n ≤ 4096 → ((j : ℕ) → get_or hs j 0 < 256) → length (accepted_text t hs bs) ≤ 73746
+  unfolding cap
+  accepted_short l low =
+      omega (
+        arith,
+        ap length accepted_parts,
+        length-append (header c n) (print_chunks (of_sheets hs bs) 0 0 (sizes (module_of t).chunks)),
+        header_short c n (omega (arith, count_low t 7)) l,
+        chunks_counted t,
+        count_low t 7,
+        chunks_short hs bs low 0 0 (module_of t).chunks (omega (arith, chunks_counted t, count_low t 7)) (omega arith),
+      )

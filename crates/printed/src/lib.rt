@@ -1,161 +1,128 @@
-// The text that the program `stagecheck` prints, written into a lent buffer.
+// The text that the program `stagecheck` prints, put into a lent buffer.
 #![tactic(auto)]
 
-ghost use Rattle.std.specs.Prelude.{◌≡◌, [], ◌∷◌, map, ◌+◌, ◌*◌, ◌≤◌, ◌<◌, length, get_or};
+ghost use Rattle.std.specs.Prelude.{◌≡◌, ◌∷◌, map, ◌+◌, ◌≤◌, ◌<◌, ◌^◌, length, get_or};
+ghost use Rattle.std.specs.List.{flat_map};
 ghost use Rattle.definition.specs.Format.{bytes, decimal};
 ghost use Rattle.definition.specs.Module.{all_ops};
 ghost use Rattle.definition.specs.Printed.{words, height_word, blind_word, sizes, print_ops, print_chunks};
 ghost use Rattle.bytecode.specs.Meaning.{module_of};
-ghost use Rattle.printed.specs.Texts.{header, line, of_sheets, accepted_text};
-ghost use Rattle.printed.specs.Writes.{Written, Holds};
+ghost use Rattle.text_out.specs.Text.{with_text};
+ghost use Rattle.printed.specs.Texts.{numbered, header, line, checked, accepted_text};
+ghost use Rattle.printed.specs.Writes.{Holds};
 
 use bytecode;
 use sheets;
+use text_out::Text;
 
-// A line has at most 18 bytes: a chunk's number at most 2, an index 4, a height 3, the mark 5, and 4 between and after them. There are at most 4,097.
-pub const ROOM: usize = 73746;
+// A chunk's number has at most 2 bytes, an index 4, a height 3, the mark 5, and 4 are between and after them.
+const LONGEST_LINE: usize = 18;
 
-fn put_byte(out: &mut [u8], at: usize, b: u8) -> usize
-    requires { at < length out.old }
-    ensures { Written out.old at (b ∷ []) out.new result }
-{
-    out[at] = b;
-    at + 1
-}
+// The first line, and one for each instruction.
+const MOST_LINES: usize = 4097;
 
-fn put_text(out: &mut [u8], at: usize, text: &[u8]) -> usize
-    requires { at + length text.now ≤ length out.old }
-    ensures { Written out.old at text.now out.new result }
-{
-    let mut i = 0;
-    while i < text.len() {
-        out[at + i] = text[i];
-        i += 1;
-    }
-    at + i
-}
-
-fn digit(n: u64) -> u8
-    requires { n < 10 }
-    ensures { result ≡ 48 + n }
-{
-    48 + (n as u8)
-}
-
-// The digits before the last one, then the last one.
-fn put_decimal(out: &mut [u8], at: usize, n: u64) -> usize
-    requires { at + length (decimal n) ≤ length out.old }
-    ensures { Written out.old at (decimal n) out.new result }
-{
-    if n < 10 {
-        return put_byte(out, at, digit(n));
-    }
-    let last = put_decimal(out, at, n / 10);
-    put_byte(out, last, digit(n % 10))
-}
+pub const ROOM: usize = LONGEST_LINE * MOST_LINES;
 
 // A number with the space before it.
-fn put_number(out: &mut [u8], at: usize, n: u64) -> usize
-    requires { at + 1 + length (decimal n) ≤ length out.old }
-    ensures { Written out.old at (32 ∷ decimal n) out.new result }
+#[tactic(auto, unfolding(text_out::specs::Text::laid, text_out::specs::Text::after_text))]
+fn put_number(text: &mut Text, n: u64)
+    ensures { text.new ≡ with_text text.old (numbered n) }
 {
-    let next = put_byte(out, at, b' ');
-    put_decimal(out, next, n)
+    text.byte(b' ');
+    text.decimal(n);
+}
+
+#[tactic(auto, using(crate::proofs::Lines::with_more_numbers), unfolding(text_out::specs::Text::laid, text_out::specs::Text::after_text))]
+fn put_numbers(text: &mut Text, numbers: &[u64])
+    ensures { text.new ≡ with_text text.old (flat_map numbered numbers.now) }
+{
+    for n in numbers {
+        put_number(text, *n);
+    }
 }
 
 // From an entry of the height sheet: 0 where the walk did not examine the instruction, else 1 + its height.
-fn put_height(out: &mut [u8], at: usize, h: u8) -> usize
-    requires { at + length (height_word h) ≤ length out.old }
-    ensures { Written out.old at (height_word h) out.new result }
+#[tactic(auto, using(crate::proofs::Lines::height_none, crate::proofs::Lines::height_some))]
+fn put_height(text: &mut Text, entry: u8)
+    ensures { text.new ≡ with_text text.old (height_word entry) }
 {
-    if h == 0 {
-        return put_byte(out, at, b'-');
+    match entry.checked_sub(1) {
+        None => text.byte(b'-'),
+        Some(height) => text.decimal(u64::from(height)),
     }
-    put_decimal(out, at, (h - 1) as u64)
 }
 
-fn put_blind(out: &mut [u8], at: usize, b: u8) -> usize
-    requires { at + 5 ≤ length out.old }
-    ensures { Written out.old at (blind_word b) out.new result }
+// From an entry of the blind sheet.
+#[tactic(auto, using(crate::proofs::Lines::blind_none, crate::proofs::Lines::blind_some), unfolding(definition::specs::Format::bytes))]
+fn put_blind(text: &mut Text, entry: u8)
+    ensures { text.new ≡ with_text text.old (blind_word entry) }
 {
-    if b == 0 {
-        return put_text(out, at, b"plain");
+    match entry {
+        0 => text.bytes(b"plain"),
+        _ => text.bytes(b"blind"),
     }
-    put_text(out, at, b"blind")
 }
 
 // The line of instruction i of chunk k, from its entries of both sheets.
-fn put_line(out: &mut [u8], at: usize, k: usize, i: usize, h: u8, b: u8) -> usize
-    requires { at + length (line k i h b) ≤ length out.old }
-    ensures { Written out.old at (line k i h b) out.new result }
+fn put_line(text: &mut Text, k: usize, i: usize, height: u8, blind: u8)
+    ensures { text.new ≡ with_text text.old (line k i height blind) }
 {
-    let next = put_decimal(out, at, k as u64);
-    let next = put_number(out, next, i as u64);
-    let next = put_byte(out, next, b' ');
-    let next = put_height(out, next, h);
-    let next = put_byte(out, next, b' ');
-    let next = put_blind(out, next, b);
-    put_byte(out, next, b'\n')
+    text.decimal(k as u64);
+    put_number(text, i as u64);
+    text.byte(b' ');
+    put_height(text, height);
+    text.byte(b' ');
+    put_blind(text, blind);
+    text.byte(b'\n');
 }
 
 // An entry of a sheet; past the end it is 0.
 fn entry(sheet: &[u8], i: usize) -> u8
     ensures { result ≡ get_or sheet.now i 0 }
 {
-    if i < sheet.len() { sheet[i] } else { 0 }
+    sheet.get(i).copied().unwrap_or(0)
 }
 
-// The lines of the n instructions of chunk k, whose entries begin at `base`.
-fn put_ops(
-    out: &mut [u8],
-    at: usize,
-    heights: &[u8],
-    blinds: &[u8],
-    k: usize,
-    base: usize,
-    n: usize,
-) -> usize
-    requires { (k < 64) × (base + n ≤ 4096) × (at + 18 * n ≤ length out.old) }
-    ensures { Written out.old at (print_ops (of_sheets heights.now blinds.now) k base 0 n) out.new result × (result ≤ at + 18 * n) }
-{
-    let mut next = at;
-    let mut i = 0;
-    while i < n {
-        let h = entry(heights, base + i);
-        let b = entry(blinds, base + i);
-        next = put_line(out, next, k, i, h, b);
-        i += 1;
+#[derive(Clone, Copy)]
+struct Sheets<'a> {
+    heights: &'a [u8],
+    blinds: &'a [u8],
+}
+
+impl Sheets<'_> {
+    // The lines of the n instructions of chunk k, whose entries begin at `base`.
+    #[tactic(auto, using(crate::proofs::Lines::with_more_ops), unfolding(definition::specs::Printed::print_ops, text_out::specs::Text::laid, text_out::specs::Text::after_text))]
+    fn put_ops(&self, text: &mut Text, k: usize, base: usize, n: usize)
+        requires { base + n < 2 ^ 64 }
+        ensures { text.new ≡ with_text text.old (print_ops (checked self.now) k base 0 n) }
+    {
+        for i in 0..n {
+            let height = entry(self.heights, base + i);
+            let blind = entry(self.blinds, base + i);
+            put_line(text, k, i, height, blind);
+        }
     }
-    next
-}
 
-// The lines of all chunks. A chunk's entries begin where those of the chunks before it end.
-fn put_chunks(out: &mut [u8], at: usize, t: &[u64], heights: &[u8], blinds: &[u8]) -> usize
-    requires { (length (all_ops (module_of t.now).chunks) ≤ 4096) × (at + 18 * 4096 ≤ length out.old) }
-    ensures { Written out.old at (print_chunks (of_sheets heights.now blinds.now) 0 0 (sizes (module_of t.now).chunks)) out.new result × (result ≤ at + 18 * 4096) }
-{
-    let n = bytecode::count(t, bytecode::CHUNKS);
-    let mut next = at;
-    let mut base = 0;
-    let mut k = 0;
-    while k < n {
-        let code = bytecode::instructions_of(t, k);
-        let count = code.count;
-        next = put_ops(out, next, heights, blinds, k, base, count);
-        base += count;
-        k += 1;
+    // The lines of all chunks. A chunk's entries begin where those of the chunks before it end.
+    fn put_chunks(&self, text: &mut Text, t: &[u64])
+        ensures { text.new ≡ with_text text.old (print_chunks (checked self.now) 0 0 (sizes (module_of t.now).chunks)) }
+    {
+        let mut base = 0;
+        for k in 0..bytecode::count(t, bytecode::CHUNKS) {
+            let count = bytecode::instructions_of(t, k).count;
+            self.put_ops(text, k, base, count);
+            base += count;
+        }
     }
-    next
 }
 
-fn put_header(out: &mut [u8], chunks: usize, instructions: usize) -> usize
-    requires { length (header chunks instructions) ≤ length out.old }
-    ensures { Written out.old 0 (header chunks instructions) out.new result }
+fn put_header(text: &mut Text, chunks: usize, instructions: usize)
+    ensures { text.new ≡ with_text text.old (header chunks instructions) }
 {
-    let next = put_text(out, 0, b"accepted");
-    let next = put_number(out, next, chunks as u64);
-    let next = put_number(out, next, instructions as u64);
-    put_byte(out, next, b'\n')
+    text.bytes(b"accepted");
+    put_number(text, chunks as u64);
+    put_number(text, instructions as u64);
+    text.byte(b'\n');
 }
 
 // For an accepted module, whose tables and sheets are lent: how many bytes are written.
@@ -165,8 +132,10 @@ pub fn print_accepted(t: &[u64], heights: &[u8], blinds: &[u8], out: &mut [u8; R
 {
     let chunks = bytecode::count(t, bytecode::CHUNKS);
     let instructions = sheets::all_instructions(t);
-    let at = put_header(out, chunks, instructions);
-    put_chunks(out, at, t, heights, blinds)
+    let mut text = Text::new(out);
+    put_header(&mut text, chunks, instructions);
+    Sheets { heights, blinds }.put_chunks(&mut text, t);
+    text.length()
 }
 
 // For a refusal, its number and values: how many bytes are written.
@@ -174,11 +143,9 @@ pub fn print_refused(fields: &[u64], out: &mut [u8; ROOM]) -> usize
     requires { length fields.now ≤ 8 }
     ensures { Holds out.new result (words (bytes "refused" ∷ map decimal fields.now)) }
 {
-    let mut next = put_text(out, 0, b"refused");
-    let mut i = 0;
-    while i < fields.len() {
-        next = put_number(out, next, fields[i]);
-        i += 1;
-    }
-    put_byte(out, next, b'\n')
+    let mut text = Text::new(out);
+    text.bytes(b"refused");
+    put_numbers(&mut text, fields);
+    text.byte(b'\n');
+    text.length()
 }

@@ -29,6 +29,7 @@ use Rattle.shapes.specs.declared.Count.TheVariants.{Known, Many, Open}
 use Rattle.answer.specs.declared.Verdict.{Verdict}
 use Rattle.answer.specs.declared.Verdict.TheVariants.{Passed, Refused}
 use Rattle.answer.specs.declared.Refusal.TheVariants.{LimitPassed}
+use Rattle.answer.specs.declared.limit.Limit.TheVariants.{Places}
 use Rattle.rules.specs.declared.Rule.{Rule}
 use Rattle.answer.specs.Answer.{refusal, is_none, fields}
 use Rattle.rules.specs.Rules.{Moves, Rules, Quiet, Body, passing_of, refusing_of, is_generic}
@@ -354,7 +355,7 @@ as_count : (d e : Count) (ps : List ℕ) (t : Option (List ℕ)) → d ≡ e →
 as_count d e ps t q h = subst (λ (z : Count). Counted z ps t) q h
 
 module _ (ip kind n size : ℕ) (d : Count) (ps : List ℕ) (t : Option (List ℕ)) (h : Counted d ps t) where
-  pub body_many : (v : Value) (r : Rule) → d ≡ Many → r ≡ refusing_of (Refused (LimitPassed ip 6)) false v → Body ip kind n size t r
+  pub body_many : (v : Value) (r : Rule) → d ≡ Many → r ≡ refusing_of (Refused (LimitPassed ip Places)) false v → Body ip kind n size t r
   unfolding refusal fields
   body_many v r e f =
       subst (Body ip kind n size t) (sym f)

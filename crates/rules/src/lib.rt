@@ -20,7 +20,8 @@ ghost use Rattle.answer.specs.Answer.{refusal};
 ghost use Rattle.rules.specs.Answers.{Of, Within};
 ghost use Rattle.rules.specs.Rules.{Looks, Otherwise, Rules, Roomed, Body, passing_of, refusing_of, is_generic};
 
-use answer::{Refusal, Verdict, limit};
+use answer::limit::Limit;
+use answer::{Refusal, Verdict};
 use bytecode::{Constant, Effect, Instr, WireShape, code};
 use shapes::{Built, Count, MOST_PLACES, Places, Shape, UNKNOWN_PLACES, Value};
 use value_layout::{Widths, scalar};
@@ -504,7 +505,7 @@ pub fn new_body(b: Built, kind: u8, n: usize, size: u32, ip: usize) -> Rule
         Count::Many => {
             let v = shapes::unknown_value();
             refusing(
-                Verdict::Refused(Refusal::LimitPassed(ip as u64, limit::PLACES)),
+                Verdict::Refused(Refusal::LimitPassed(ip as u64, Limit::Places)),
                 false,
                 v,
             )
@@ -567,7 +568,7 @@ pub fn check_room(r: Rule, height: usize, ip: usize) -> Verdict
     let times = count(r.times);
     let ints = count(r.ints);
     if 64 < height - take + times + ints {
-        return Verdict::Refused(Refusal::LimitPassed(ip as u64, limit::OPERANDS));
+        return Verdict::Refused(Refusal::LimitPassed(ip as u64, Limit::Operands));
     }
     Verdict::Passed
 }

@@ -1,26 +1,17 @@
 -- Laws for the proofs of the code, on plain variables. Assumes nothing.
-use mathlib.Core.Path.{◌≡◌, ap, ◌∙◌}
-use mathlib.Core.List.{List, [], ◌∷◌}
-use Prim.Native.Nat.{ℕ, suc, ◌+◌, ◌-◌, ◌≤◌, ◌<◌, min}
-use native.Mathlib.Omega.{arith}
-use native.Mathlib.Numerals.{add-one}
-use borrow.Author.Tests.{le-leb, lt-leb}
-use lib.ListN.{length, length-append}
-use Rattle.definition.specs.Basics.{unless}
+use Rattle.std.proofs.Common.{◌≡◌, refl, ap, ◌∙◌, List, ◌∷◌, ℕ, zero, suc, ◌+◌, ◌-◌, ◌<◌, arith, add-one, length, length-append}
+use Rattle.std.specs.List.{sum_by, range_with_len}
+use Rattle.std.proofs.lemmas.List.Sums.{sum_by-cons}
 use Rattle.definition.specs.Module.{Code, all_ops}
-use Rattle.definition.specs.Check.{sheets_test}
 use Rattle.bytecode.specs.Lists.{tabulate, tabulate-length}
 use Rattle.bytecode.specs.Meaning.{count, op_at, code_of, module_of, first_op, op_count}
-use Rattle.answer.specs.declared.Refusal.TheVariants.{SheetTooShort}
-use Rattle.answer.specs.declared.Finding.TheVariants.{Nothing, Refused}
-use Rattle.answer.specs.Answer.{found, numbers, fields, with_chunk}
 
 module _ (t : List ℕ) where
   -- the chunks from number k on
   pub chunks_left : ℕ → List Code
   chunks_left k = tabulate k (count t 7 - k) (code_of t)
 
-  -- the chunks before k have n instructions
+  -- the chunks before k have n instructions; the loop of `printed::put_chunks` keeps it
   abbrev pub Sum : ℕ → ℕ → Type 0
   Sum n k = length (all_ops (module_of t).chunks) ≡ n + length (all_ops (chunks_left k))
 
@@ -39,18 +30,18 @@ module _ (t : List ℕ) where
       let c : length (code_of t k).ops ≡ op_count t k = tabulate-length (first_op t k) (op_count t k) (op_at t) in
       rw (add-one k) (omega (arith, b, c))
 
-  pub sum_end : (n k : ℕ) → count t 7 ≤ k → Sum n k → n ≡ length (all_ops (module_of t).chunks)
-  unfolding chunks_left tabulate all_ops
-  sum_end n k l S =
-      let z : count t 7 - k ≡ 0 = omega arith in
-      let a : chunks_left k ≡ [] = rw (z, tabulate) in
-      omega (arith, ap (λ (cs : List Code). length (all_ops cs)) a)
+  -- The instructions of n chunks from number k on, each chunk counted.
+  counted_from : (k n : ℕ) → sum_by (op_count t) (range_with_len k n) ≡ length (all_ops (tabulate k n (code_of t)))
+  unfolding tabulate all_ops code_of
+  counted_from k zero = refl
+  counted_from k (suc n) =
+      let a = sum_by-cons (op_count t) k (range_with_len (k + 1) n) in
+      let b = length-append (code_of t k).ops (all_ops (tabulate (suc k) n (code_of t))) in
+      let c = tabulate-length (first_op t k) (op_count t k) (op_at t) in
+      let d : sum_by (op_count t) (range_with_len (k + 1) n) ≡ length (all_ops (tabulate (suc k) n (code_of t))) =
+      rw add-one (counted_from (suc k) n) in
+      a ∙ omega arith
 
-module _ (n h b i l : ℕ) (e : i ≡ n) (f : l ≡ min h b) where
-  pub too_short : l < i → found (Refused 0 (SheetTooShort i l)) ≡ sheets_test n h b
-  unfolding found numbers fields with_chunk sheets_test unless
-  too_short k = rw (e, f, lt-leb n (min h b) (omega arith))
-
-  pub enough : i ≤ l → found Nothing ≡ sheets_test n h b
-  unfolding found numbers fields with_chunk sheets_test unless
-  enough k = rw (le-leb n (min h b) (omega arith))
+  pub counted : (n : ℕ) → n ≡ count t 7 → sum_by (op_count t) (range_with_len 0 n) ≡ length (all_ops (module_of t).chunks)
+  unfolding module_of
+  counted n e = rw e (counted_from 0 (count t 7))

@@ -5,37 +5,28 @@ ghost use Rattle.std.specs.Prelude.{◌≡◌, length};
 ghost use Rattle.definition.specs.Module.{all_ops};
 ghost use Rattle.definition.specs.Check.{sheets_test};
 ghost use Rattle.bytecode.specs.Meaning.{module_of};
-ghost use Rattle.answer.specs.Answer.{found};
+ghost use Rattle.answer.specs.Answer.{found_in_none};
 
-use answer::{Finding, Refusal};
+use answer::Refusal;
 use bytecode;
 
 // The instructions of all chunks: at most 4,096 to each of 64, whatever the tables hold.
 pub fn all_instructions(t: &[u64]) -> usize
     ensures { result ≡ length (all_ops (module_of t.now).chunks) }
 {
-    let n = bytecode::count(t, bytecode::CHUNKS);
-    let mut total = 0;
-    let mut k = 0;
-    while k < n {
-        let s = bytecode::instructions_of(t, k);
-        total += s.count;
-        k += 1;
-    }
-    total
+    (0..bytecode::count(t, bytecode::CHUNKS))
+        .map(|k| bytecode::instructions_of(t, k).count)
+        .sum()
 }
 
 // The sheets' lengths against the number of all instructions.
-pub fn check_sheets(t: &[u64], heights: usize, blinds: usize) -> Finding
-    ensures { found result ≡ sheets_test (length (all_ops (module_of t.now).chunks)) heights blinds }
+pub fn check_sheets(t: &[u64], heights: usize, blinds: usize) -> Result<(), Refusal>
+    ensures { found_in_none result ≡ sheets_test (length (all_ops (module_of t.now).chunks)) heights blinds }
 {
     let instructions = all_instructions(t);
-    let length = bytecode::least(heights, blinds);
+    let length = heights.min(blinds);
     if length < instructions {
-        return Finding::Refused(
-            0,
-            Refusal::SheetTooShort(instructions as u64, length as u64),
-        );
+        return Err(Refusal::SheetTooShort(instructions as u64, length as u64));
     }
-    Finding::Nothing
+    Ok(())
 }

@@ -1,5 +1,5 @@
 -- What a caller of the library finds in the words that it lends, and in what else it lends.
-use Rattle.std.specs.Prelude.{◌≡◌, true, false, List, [], ◌∷◌, ◌++◌, ℕ, ◌≤◌, length, get_or, take, drop}
+use Rattle.std.specs.Prelude.{◌≡◌, true, false, List, [], ◌∷◌, ◌++◌, ℕ, ◌≤◌, length, take, drop, Result as Outcome}
 use Rattle.definition.specs.Basics.{Result, ok, refused}
 use Rattle.definition.specs.Format.{Bytes}
 use Rattle.definition.specs.Module.{Module, all_ops}
@@ -8,8 +8,9 @@ use Rattle.definition.specs.Write.{Written}
 use Rattle.definition.specs.Check.{Checked, Answer, accepted, refusal}
 use Rattle.bytecode.specs.Meaning.{module_of}
 use Rattle.bytecode.specs.Exact.{is_exact}
-use Rattle.listing.specs.declared.Reading.{Reading}
-use Rattle.listing.specs.declared.Reading.TheVariants as R
+use Rattle.answer.specs.declared.Accepted.{Accepted}
+use Rattle.answer.specs.declared.Refused.{Refused}
+use Rattle.answer.specs.Answer.{answer_of}
 use Rattle.answer.specs.Numbers.{values_of, values_of_written, row_of}
 
 -- The words are these values with zeros after them, and n says how many values there are.
@@ -28,11 +29,11 @@ unfoldable pub read_answer : Result Module → Answer
 read_answer (ok m) = accepted (length m.chunks) (length (all_ops m.chunks))
 read_answer (refused r) = refusal r
 
--- What is left in the tables: the module that was read, or no header where the listing does not read.
-unfoldable pub LeftAfter : Reading → List ℕ → List ℕ → Type 0
-LeftAfter R.Module before after = after ≡ before
-LeftAfter (R.Line n) before after = get_or after 0 0 ≡ 0
-LeftAfter (R.Limit n) before after = get_or after 0 0 ≡ 0
+-- What reading leaves: that answer; where the listing reads, tables that say exactly its module, and where it does not, none.
+pub record ReadInto (o : Result Module) (a : Outcome Accepted Refused) (tables : List ℕ) : Type 0 where
+  pub answer : answer_of a ≡ read_answer o
+  pub module_is : (m : Module) → o ≡ ok m → (module_of tables ≡ m) × (is_exact tables ≡ true)
+  pub no_module : (r : List ℕ) → o ≡ refused r → is_exact tables ≡ false
 
 -- That answer; where the listing reads, the tables say exactly its module, and where it does not, none.
 pub record ReadGiven (o : Result Module) (n : ℕ) (words tables : List ℕ) : Type 0 where

@@ -1,31 +1,25 @@
 // The check, the reader and the writer for callers in C and Rust: include/stagecheck.h declares them and says what their numbers mean.
 #![tactic(auto)]
 
-ghost use Rattle.std.specs.Prelude.{◌≡◌, ◌<◌, length, get_or};
+ghost use Rattle.std.specs.Prelude.{◌≡◌, length};
 ghost use Rattle.definition.specs.Check.{check};
 ghost use Rattle.typed_check.specs.Equal.{Sound};
 ghost use Rattle.definition.specs.Read.{read as read_listing};
-ghost use Rattle.listing.specs.Answer.{result_of, LeftIn};
-ghost use Rattle.answer.specs.Answer.{answer_of};
 ghost use Rattle.writer.specs.Tables.{write_tables};
-ghost use Rattle.stagecheck_c.specs.Row.{Given, read_answer, LeftAfter, ReadGiven, WriteGiven, BackGiven, AgainGiven};
+ghost use Rattle.stagecheck_c.specs.Row.{Given, ReadInto, ReadGiven, WriteGiven, BackGiven, AgainGiven};
 ghost use Rattle.definition.specs.Printed.{printed};
 ghost use Rattle.printed.specs.Writes.{Holds};
 
-use answer::{Answer, Refusal};
-use listing::Reading;
+use answer::{Accepted, Numbers, Refused};
 use printed::ROOM;
 
-// The words of an answer, into words that the caller lends.
-fn give(words: [u64; 8], out: &mut [u64])
-    requires { length out.old ≡ 8 }
-    ensures { out.new ≡ words }
+// An answer's words, into words that the caller lends; gives how many there are.
+fn give(numbers: Numbers, answer: &mut [u64; 8]) -> usize
+    ensures { (result ≡ numbers.count) × (answer.new ≡ numbers.words) }
 {
-    let mut i = 0;
-    while i < 8 {
-        out[i] = words[i];
-        i += 1;
-    }
+    let Numbers { count, words } = numbers;
+    answer.copy_from_slice(&words);
+    count
 }
 
 // Checks any bytes, with any two sheets; gives how many words the answer has. The tables are lent too, whatever they hold.
@@ -40,12 +34,8 @@ pub extern "C" fn stagecheck_check_in(
     ensures given { Given (check listing.now (length heights.old) (length blinds.old)) result answer.new heights.new blinds.new }
     ensures sound { Sound (check listing.now (length heights.old) (length blinds.old)).answer listing.now heights.new blinds.new }
 {
-    let a = typed_check::check_into(listing, tables, heights, blinds);
-    let n = a.numbers();
-    let count = n.count;
-    let words = n.words;
-    give(words, answer);
-    count
+    let checked = typed_check::check_into(listing, tables, heights, blinds);
+    give(Numbers::from(checked), answer)
 }
 
 // The same with tables of its own, on the stack.
@@ -63,33 +53,17 @@ pub extern "C" fn stagecheck_check(
     stagecheck_check_in(listing, &mut tables, heights, blinds, answer)
 }
 
-// Tables without a header say no module.
-fn forget(tables: &mut [u64])
-    requires { 0 < length tables.old }
-    ensures { get_or tables.new 0 0 ≡ 0 }
+// Reading, and how much was read. A listing that does not read leaves no header, and tables without a header say no module.
+fn read_into(listing: &[u8], tables: &mut [u64; 22232]) -> Result<Accepted, Refused>
+    ensures { ReadInto (read_listing listing.now) result tables.new }
 {
-    tables[bytecode::HEADER] = 0;
-}
-
-// The answer of reading. What is left in the tables of a listing that does not read is no module.
-fn read_answer(r: Reading, tables: &mut [u64; 22232]) -> Answer
-    requires { LeftIn r tables.old }
-    ensures { (answer_of result ≡ read_answer (result_of r tables.old)) × LeftAfter r tables.old tables.new }
-{
-    match r {
-        Reading::Line(n) => {
-            forget(tables);
-            return Answer::Refused(0, Refusal::CannotFollow(n));
+    match listing::read(listing, tables) {
+        Ok(()) => Ok(typed_check::counts(tables)),
+        Err(refusal) => {
+            tables[bytecode::HEADER] = 0;
+            Err(Refused::from(refusal))
         }
-        Reading::Limit(n) => {
-            forget(tables);
-            return Answer::Refused(0, Refusal::LimitPassed(0, n));
-        }
-        Reading::Module => {}
     }
-    let chunks = bytecode::count(tables, bytecode::CHUNKS);
-    let instructions = bytecode::count(tables, bytecode::INSTRUCTIONS);
-    Answer::Accepted(chunks as u64, instructions as u64)
 }
 
 // Reads any bytes into lent tables, whatever they hold; gives how many words the answer has.
@@ -101,13 +75,8 @@ pub extern "C" fn stagecheck_read(
 ) -> usize
     ensures { ReadGiven (read_listing listing.now) result answer.new tables.new }
 {
-    let r = listing::read(listing, tables);
-    let a = read_answer(r, tables);
-    let n = a.numbers();
-    let count = n.count;
-    let words = n.words;
-    give(words, answer);
-    count
+    let read = read_into(listing, tables);
+    give(Numbers::from(read), answer)
 }
 
 // Writes the module that the tables say as its listing, for any words and any buffer; gives how many words the answer has.
@@ -121,12 +90,8 @@ pub extern "C" fn stagecheck_write(
     ensures back_given { BackGiven tables.now out.old result answer.new out.new }
     ensures again_given { AgainGiven tables.now (write_tables tables.now out.old) out.new }
 {
-    let w = writer::write(tables, out);
-    let n = w.numbers();
-    let count = n.count;
-    let words = n.words;
-    give(words, answer);
-    count
+    let written = writer::write(tables, out);
+    give(Numbers::from(written), answer)
 }
 
 // The text that the program `stagecheck` prints for any bytes; answers its length.

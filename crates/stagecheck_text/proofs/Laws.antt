@@ -17,15 +17,16 @@ use Rattle.definition.specs.Printed.{words, sizes, sizes_read, print_answer, pri
 use Rattle.theorems.specs.Cover.{ok_inj}
 use Rattle.theorems.specs.Accepted.{Accepts, accepts, totals}
 use Rattle.bytecode.specs.Meaning.{module_of}
-use Rattle.listing.specs.declared.Reading.TheVariants.{Limit}
 use Rattle.listing.specs.Reads.{read_long}
 use Rattle.listing.specs.Answer.{result_of, answered}
 use Rattle.answer.specs.declared.Refusal.{Refusal}
 use Rattle.answer.specs.declared.Refusal.TheVariants as R
-use Rattle.answer.specs.declared.Answer.{Answer}
-use Rattle.answer.specs.declared.Answer.TheVariants as A
+use Rattle.std.specs.Prelude.{Result as Outcome, Ok, Err}
+use Rattle.answer.specs.declared.Refused.{Refused}
+use Rattle.answer.specs.declared.Accepted.{Accepted}
+use Rattle.answer.specs.declared.limit.Limit.TheVariants.{Bytes as LongListing}
 use Rattle.answer.specs.declared.Numbers.{Numbers}
-use Rattle.answer.specs.Answer.{numbers, fields, with_chunk, answer_of}
+use Rattle.answer.specs.Answer.{numbers, fields, with_chunk, refused_numbers, answer_of}
 use Rattle.answer.specs.Numbers.{row_of}
 use Rattle.typed_check.specs.Equal.{checked_of, Tabled}
 use Rattle.printed.specs.Texts.{acceptance, accepted_text}
@@ -87,18 +88,24 @@ abbrev told : Bytes → Checked → Bytes
 told s r = print_answer r (sizes_read (read s)) r.answer
 
 -- The check of a listing with two sheets, and the tables that it leaves.
-module _ (s : Bytes) (t heights blinds : List ℕ) (a : Answer) (e : checked_of a heights blinds ≡ check s 4096 4096) where
-  pub refused_text : {k : ℕ} {why : Refusal} (n : Numbers) → a ≡ A.Refused k why → n ≡ row_of (numbers k why) →
+module _ (s : Bytes) (t heights blinds : List ℕ) (a : Outcome Accepted Refused) (e : checked_of a heights blinds ≡ check s 4096 4096) where
+  pub refused_text : {r : Refused} (n : Numbers) → a ≡ Err r → n ≡ row_of (refused_numbers r) →
       words (bytes "refused" ∷ map decimal (take n.count n.words)) ≡ printed s
   unfolding printed print_answer answer_of
-  refused_text {k} {why} n g r =
-      ap (λ (xs : List ℕ). words (bytes "refused" ∷ map decimal xs)) (words_are k why n r)
-      ∙ ap (λ (z : Answer). told s (checked_of z heights blinds)) (sym g)
+  refused_text {r} n g f =
+      ap (λ (xs : List ℕ). words (bytes "refused" ∷ map decimal xs)) (words_are r.chunk r.refusal n f)
+      ∙ ap (λ (z : Outcome Accepted Refused). told s (checked_of z heights blinds)) (sym g)
       ∙ ap (told s) e
 
-  module _ {chunks instructions : ℕ} (g : a ≡ A.Accepted chunks instructions) (k : Tabled a s t) where
+  module _ {x : Accepted} (g : a ≡ Ok x) (k : Tabled a s t) where
+    chunks : ℕ
+    chunks = x.chunks
+
+    instructions : ℕ
+    instructions = x.instructions
+
     is_accepted : answer_of a ≡ accepted chunks instructions
-    unfolding answer_of
+    unfolding answer_of chunks instructions
     is_accepted = ap answer_of g
 
     accepts_it : Accepts s 4096 4096
@@ -139,8 +146,8 @@ by_read s u e = ap text e
         print_answer r (sizes_read z) r.answer
 
 limit_1 : (s : Bytes) → 65536 < length s → read s ≡ refused (limit 1)
-unfolding result_of
-limit_1 s l = (answered s (Limit 1) [] (read_long s l [])).0
+unfolding result_of numbers with_chunk fields
+limit_1 s l = (answered s (Err (R.LimitPassed 0 LongListing)) [] (read_long s l [])).0
 
 -- One byte more than the limit is enough to read of any listing.
 pub enough : (s : Bytes) → printed (take 65537 s) ≡ printed s

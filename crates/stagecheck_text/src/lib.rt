@@ -4,7 +4,7 @@
 ghost use Rattle.definition.specs.Printed.{printed};
 ghost use Rattle.printed.specs.Writes.{Holds};
 
-use answer::Answer;
+use answer::Numbers;
 use printed::ROOM;
 
 // With lent tables, whatever they hold.
@@ -13,13 +13,10 @@ fn check_text_into(listing: &[u8], t: &mut [u64; 22232], out: &mut [u8; ROOM]) -
 {
     let mut heights = [0u8; 4096];
     let mut blinds = [0u8; 4096];
-    let a = typed_check::check_into(listing, t, &mut heights, &mut blinds);
-    match a {
-        Answer::Accepted(_, _) => printed::print_accepted(t, &heights, &blinds, out),
-        Answer::Refused(k, why) => {
-            let numbers = why.numbers(k);
-            let words = numbers.words;
-            let count = numbers.count;
+    match typed_check::check_into(listing, t, &mut heights, &mut blinds) {
+        Ok(_) => printed::print_accepted(t, &heights, &blinds, out),
+        Err(refused) => {
+            let Numbers { count, words } = Numbers::from(refused);
             printed::print_refused(&words[..count], out)
         }
     }

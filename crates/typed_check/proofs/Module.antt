@@ -22,11 +22,10 @@ use Rattle.bytecode.specs.Meaning.{count, count_low, first_op, op_count, module_
 use Rattle.listing.specs.Answer.{StandsIn}
 use Rattle.sheets.specs.Totals.{chunk_within}
 use Rattle.nesting.specs.Chunks.{fine}
-use Rattle.answer.specs.declared.Refusal.{Refusal}
-use Rattle.answer.specs.Answer.{numbers, found, fields, with_chunk, refusal}
+use Rattle.answer.specs.Answer.{numbers, refused_numbers, found, fields, with_chunk, refusal}
 use Rattle.answer.specs.declared.Verdict.TheVariants as case
-use Rattle.answer.specs.declared.Finding.{Finding}
-use Rattle.answer.specs.declared.Finding.TheVariants.{Nothing, Refused}
+use Rattle.std.specs.Prelude.{Result as Outcome, Ok, Err}
+use Rattle.answer.specs.declared.Refused.{Refused}
 use Rattle.rules.specs.Answers.{values_of}
 use Rattle.walk.specs.declared.Walk.{Walk}
 use Rattle.walk.specs.declared.Walk.TheVariants as W
@@ -109,13 +108,13 @@ module _ (t : List ℕ) (h b : ℕ) (stands : StandsIn t) where
   whole = ap (λ (cs : List Chunk). run S (layout_test m) cs (zeros h b)) (sym stands.chunks)
 
   -- what a test finds is the answer
-  pub tested_bad : (f : Finding) {k : ℕ} {x : Refusal} (sh : Sheets) → f ≡ Refused k x → found f ≡ tests_of h b t → pass (found f) sh ≡ check_module h b (module_of t)
+  pub tested_bad : (f : Outcome Unit Refused) {x : Refused} (sh : Sheets) → f ≡ Err x → found f ≡ tests_of h b t → pass (found f) sh ≡ check_module h b (module_of t)
   unfolding tests_of found pass m S N
-  tested_bad f {k} {x} sh e g =
-      let z : first S (first N (layout_test m)) ≡ some (numbers k x) = sym g ∙ ap found e in
-      ap (λ (o : Finding). pass (found o) sh) e ∙ sym (whole ∙ run_bad S (layout_test m) (table_chunks t) (zeros h b) (numbers k x) z)
+  tested_bad f {x} sh e g =
+      let z : first S (first N (layout_test m)) ≡ some (refused_numbers x) = sym g ∙ ap found e in
+      ap (λ (o : Outcome Unit Refused). pass (found o) sh) e ∙ sym (whole ∙ run_bad S (layout_test m) (table_chunks t) (zeros h b) (refused_numbers x) z)
 
-  module _ (f : Finding) (e : f ≡ Nothing) (g : found f ≡ tests_of h b t) where
+  module _ (f : Outcome Unit Refused) (e : f ≡ Ok tt) (g : found f ≡ tests_of h b t) where
     none_found : first S (first N (layout_test m)) ≡ none
     unfolding tests_of found m S N
     none_found = sym g ∙ ap found e
@@ -146,7 +145,7 @@ module _ (t : List ℕ) (h b : ℕ) (stands : StandsIn t) where
         }
 
     -- the walk's answer is the answer
-    pub tested_good : (w : Walk) (sh : Sheets) (r : Finding) → found r ≡ refused_by w → results_of w sh ≡ walk_all 0 (table_chunks t) (zeros h b) →
+    pub tested_good : (w : Walk) (sh : Sheets) (r : Outcome Unit Refused) → found r ≡ refused_by w → results_of w sh ≡ walk_all 0 (table_chunks t) (zeros h b) →
         pass (found r) sh ≡ check_module h b (module_of t)
     unfolding N m
     tested_good w sh r a c =

@@ -1,16 +1,17 @@
 -- What the entry's types mean, and what it promises.
-use Rattle.std.specs.Prelude.{◌≡◌, List, ℕ, length}
+use Rattle.std.specs.Prelude.{◌≡◌, List, ℕ, length, Result as Outcome, Ok, Err}
 use Rattle.std.proofs.Math.Option.{Option, none, some}
-use Rattle.definition.specs.Basics.{ok, first}
+use Rattle.definition.specs.Basics.{ok, refused, first}
 use Rattle.definition.specs.Read.{read}
 use Rattle.definition.specs.Module.{all_ops}
 use Rattle.definition.specs.Layout.{layout_test}
-use Rattle.definition.specs.Check.{Answer as AnyAnswer, Checked, accepted, sheets_test, nesting_test}
-use Rattle.bytecode.specs.Meaning.{module_of, table_chunks}
+use Rattle.definition.specs.Check.{Answer as AnyAnswer, Checked, accepted, check, conclude, sheets_test, nesting_test}
+use Rattle.bytecode.specs.Meaning.{count, module_of, table_chunks}
 use Rattle.definition.specs.Demand.{Demand3}
 use Rattle.definition.specs.Format.{Bytes}
-use Rattle.answer.specs.declared.Answer.{Answer}
-use Rattle.answer.specs.Answer.{numbers, answer_of}
+use Rattle.answer.specs.declared.Accepted.{Accepted}
+use Rattle.answer.specs.declared.Refused.{Refused}
+use Rattle.answer.specs.Answer.{numbers, refused_numbers, answer_of}
 use Rattle.listing.specs.Answer.{StandsIn}
 use Rattle.walk.specs.declared.Walk.{Walk}
 use Rattle.walk.specs.declared.Walk.TheVariants as W
@@ -18,7 +19,7 @@ use Rattle.answer.specs.declared.Verdict.{Verdict}
 use Rattle.answer.specs.declared.Verdict.TheVariants as case
 
 -- an answer, and what both sheets hold
-abbrev pub checked_of : Answer → List ℕ → List ℕ → Checked
+abbrev pub checked_of : Outcome Accepted Refused → List ℕ → List ℕ → Checked
 checked_of a heights blinds = record { answer = answer_of a; heights = heights; blinds = blinds }
 
 -- Where the listing is accepted, demand 3 holds of it and of both sheets.
@@ -26,8 +27,17 @@ abbrev pub Sound : AnyAnswer → Bytes → List ℕ → List ℕ → Type 0
 Sound a listing heights blinds = (chunks instructions : ℕ) → a ≡ accepted chunks instructions → Demand3 listing heights blinds
 
 -- Where the listing is accepted, the tables hold its module.
-abbrev pub Tabled : Answer → Bytes → List ℕ → Type 0
+abbrev pub Tabled : Outcome Accepted Refused → Bytes → List ℕ → Type 0
 Tabled a listing tables = (chunks instructions : ℕ) → answer_of a ≡ accepted chunks instructions → (read listing ≡ ok (module_of tables)) × StandsIn tables
+
+-- how many chunks and instructions the module in the tables has
+abbrev pub counted : List ℕ → Accepted
+counted tables = record { chunks = count tables 7; instructions = count tables 9 }
+
+-- The answer is the definition's; where it is an acceptance, the sheets and the module in the tables are too.
+unfoldable pub CheckedIs : Bytes → ℕ → ℕ → Outcome Accepted Refused → List ℕ → List ℕ → List ℕ → Type 0
+CheckedIs listing h b (Ok a) tables heights blinds = (checked_of (Ok a) heights blinds ≡ check listing h b) × Tabled (Ok a) listing tables
+CheckedIs listing h b (Err r) tables heights blinds = check listing h b ≡ conclude h b (refused (refused_numbers r))
 
 -- the numbers of a refusal in chunk k
 unfoldable pub refused_in : ℕ → Verdict → Option (List ℕ)

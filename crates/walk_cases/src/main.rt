@@ -2,59 +2,59 @@
 // and changes that of local 1. The walk needs two passes and reads local 0 plainly in both; the last pass forgets both locals, so its read is blind.
 #![tactic(auto)]
 
-ghost use Rattle.std.specs.Prelude.{◌≡◌, ◌+◌, ◌≤◌, ◌<◌, length};
+ghost use Rattle.std.specs.Prelude.{◌≡◌, ◌+◌, ◌≤◌, ◌<◌};
 ghost use Rattle.definition.specs.Instructions.{control, loop_to};
 ghost use Rattle.blocks.specs.Visits.{Placed, instr_in};
 ghost use Rattle.walk.specs.Ready.{Roomy};
 
-use answer::Finding;
 use blocks::{Flow, Leaving};
-use bytecode::code;
-use listing::Reading;
+use bytecode::{Instr, SIZE, code};
 use rules::Ctx;
 use std::io;
-use std::io::Write;
 
-fn print(rt: &impl Print, text: &[u8]) -> io::Result<()> {
-    io::writer(rt).write_all(text)
-}
+const LISTING: &[u8] = b"\
+(module 8 8 6 0 0 8 9
+(sig (top) (top) (flat 0 16) (scalar 3))
+(chunk 2
+(op Loop 7)
+(op GetLocal 0)
+(op Dup)
+(op GetField Flat 8 1)
+(op SetLocal 1)
+(op SetLocal 0)
+(op EndLoop 0)
+(op Return)
+)
+)
+";
 
-fn wide(x: u8) -> u64 {
-    x as u64
-}
+// Room for an entry of each instruction of the chunk.
+const SHEET: usize = 16;
 
-// The entries of a sheet.
-fn print_sheet(rt: &impl Print, name: &[u8], sheet: &[u8], n: usize) -> io::Result<()>
-    requires { n ≤ length sheet.now }
-{
-    print(rt, name)?;
-    for entry in &sheet[..n] {
-        let entry = wide(*entry);
+fn print_sheet(rt: &impl Print, name: &str, sheet: &[u8]) -> io::Result<()> {
+    print!(rt; "{name}")?;
+    for entry in sheet {
         print!(rt; " {entry}")?;
     }
-    print(rt, b"\n")
+    println!(rt; "")
+}
+
+fn print_sheets(rt: &impl Print, heights: &[u8], blinds: &[u8]) -> io::Result<()> {
+    print_sheet(rt, "heights", heights)?;
+    print_sheet(rt, "blinds", blinds)
 }
 
 // The whole walk of chunk 0.
-fn show_walk(
-    rt: &impl Print,
-    t: &[u64],
-    heights: &mut [u8],
-    blinds: &mut [u8],
-    n: usize,
-) -> io::Result<()>
-    requires roomy { Roomy t.now heights.old blinds.old 0 }
-    requires room { (n ≤ length heights.old) × (n ≤ length blinds.old) }
+fn show_walk(rt: &impl Print, t: &[u64], heights: &mut [u8], blinds: &mut [u8]) -> io::Result<()>
+    requires { Roomy t.now heights.old blinds.old 0 }
 {
-    let o = walk::walk_chunk(t, heights, blinds, 0);
-    let f = o.flow;
-    match f {
-        Flow::Refused(_) => print(rt, b"walk refused\n")?,
-        Flow::Ended => print(rt, b"walk ended\n")?,
-        Flow::Falls => print(rt, b"walk fell through\n")?,
-    }
-    print_sheet(rt, b"heights", heights, n)?;
-    print_sheet(rt, b"blinds", blinds, n)
+    let outcome = match walk::walk_chunk(t, heights, blinds, 0).flow {
+        Flow::Refused(_) => "refused",
+        Flow::Ended => "ended",
+        Flow::Falls => "fell through",
+    };
+    println!(rt; "walk {outcome}")?;
+    print_sheets(rt, heights, blinds)
 }
 
 // The last pass over the loop at ip, from the state in which its chunk begins.
@@ -76,7 +76,7 @@ fn last_pass(
     let mut broken = [0u64; 96];
     let mut held = [0u32; 1536];
     blocks::start_locals(t, &mut head, &mut texts, x);
-    let l = walk::last_pass(
+    walk::last_pass(
         t,
         heights,
         blinds,
@@ -91,9 +91,8 @@ fn last_pass(
         exit,
         0,
         0,
-    );
-    let f = l.leaving;
-    f
+    )
+    .leaving
 }
 
 // The last pass over the loop at ip of chunk 0.
@@ -102,68 +101,52 @@ fn show_last(
     t: &[u64],
     heights: &mut [u8],
     blinds: &mut [u8],
-    n: usize,
     ip: usize,
 ) -> io::Result<()>
-    requires roomy { Roomy t.now heights.old blinds.old 0 }
-    requires room { (n ≤ length heights.old) × (n ≤ length blinds.old) }
+    requires { Roomy t.now heights.old blinds.old 0 }
 {
     let x = rules::context(t, 0);
-    let first = x.first;
-    let count = x.count;
-    if count <= ip {
+    if x.count <= ip {
         return Ok(());
     }
-    let i = bytecode::instr_at(t, first + ip);
-    let code = i.code;
-    let a = i.a;
-    if code != code::LOOP {
-        return Ok(());
-    }
+    let Instr { code, a, .. } = bytecode::instr_at(t, x.first + ip);
     let exit = a as usize;
-    if exit <= ip + 1 {
+    if code != code::LOOP || exit <= ip + 1 || x.count < exit {
         return Ok(());
     }
-    if count < exit {
-        return Ok(());
-    }
-    let f = last_pass(t, heights, blinds, x, ip, exit);
-    match f {
-        Leaving::Stopped(_) => print(rt, b"last pass refused\n")?,
-        Leaving::After => print(rt, b"last pass made\n")?,
-    }
-    print_sheet(rt, b"heights", heights, n)?;
-    print_sheet(rt, b"blinds", blinds, n)
+    let outcome = match last_pass(t, heights, blinds, x, ip, exit) {
+        Leaving::Stopped(_) => "refused",
+        Leaving::After => "made",
+    };
+    println!(rt; "last pass {outcome}")?;
+    print_sheets(rt, heights, blinds)
 }
 
-fn run(rt: &impl Print, t: &[u64; 22232]) -> io::Result<()> {
-    let r = nesting::check_nesting(t);
-    let Finding::Nothing = r else {
-        return print(rt, b"not nested\n");
+#[tactic(auto, using(crate::proofs::Rooms::roomy), unfolding(answer::specs::Answer::found, bytecode::specs::Tables::cap))]
+fn run(rt: &impl Print, t: &[u64; SIZE]) -> io::Result<()> {
+    let Ok(()) = nesting::check_nesting(t) else {
+        return println!(rt; "not nested");
     };
     if bytecode::count(t, bytecode::CHUNKS) == 0 {
         return Ok(());
     }
     let code = bytecode::instructions_of(t, 0);
     let end = code.first + code.count;
-    if 16 < end {
+    if SHEET < end {
         return Ok(());
     }
-    let mut heights = [0u8; 16];
-    let mut blinds = [0u8; 16];
-    show_walk(rt, t, &mut heights, &mut blinds, end)?;
-    let mut more_heights = [0u8; 16];
-    let mut more_blinds = [0u8; 16];
-    show_last(rt, t, &mut more_heights, &mut more_blinds, end, 0)
+    let mut heights = [0; SHEET];
+    let mut blinds = [0; SHEET];
+    show_walk(rt, t, &mut heights[..end], &mut blinds[..end])?;
+    let mut heights = [0; SHEET];
+    let mut blinds = [0; SHEET];
+    show_last(rt, t, &mut heights[..end], &mut blinds[..end], 0)
 }
 
 fn main(rt: HostRuntime) -> io::Result<()> {
-    let mut tables = [0u64; 22232];
-    let text =
-        b"(module 8 8 6 0 0 8 9\n(sig (top) (top) (flat 0 16) (scalar 3))\n(chunk 2\n(op Loop 7)\n(op GetLocal 0)\n(op Dup)\n(op GetField Flat 8 1)\n(op SetLocal 1)\n(op SetLocal 0)\n(op EndLoop 0)\n(op Return)\n)\n)\n";
-    let r = listing::read(text, &mut tables);
-    let Reading::Module = r else {
-        return print(&rt, b"not read\n");
+    let mut tables = [0; SIZE];
+    let Ok(()) = listing::read(LISTING, &mut tables) else {
+        return println!(rt; "not read");
     };
     run(&rt, &tables)
 }

@@ -19,8 +19,8 @@ use Rattle.theorems.specs.Relisted.{read_written, written_read}
 use Rattle.bytecode.specs.Meaning.{module_of}
 use Rattle.bytecode.specs.Exact.{is_exact}
 use Rattle.answer.specs.Answer.{written_of, numbers, fields, with_chunk}
-use Rattle.answer.specs.declared.Written.{Written as Answered}
-use Rattle.answer.specs.declared.Written.TheVariants as W
+use Rattle.std.specs.Prelude.{Result as Outcome, Ok, Err}
+use Rattle.answer.specs.declared.Refusal.{Refusal}
 use Rattle.answer.specs.declared.Refusal.TheVariants as R
 use Rattle.writer.specs.Put.{Put, past, lay, text_in, reach, reach_in, reach-whole, laid_whole}
 use Rattle.writer.specs.Say.{module_said}
@@ -64,7 +64,7 @@ text_refused t f = go (is_exact t) (leb (length (listing_of (module_of t))) 6553
 module _ (t : List ℕ) (s : Says (module_said t) (Passing t) (listing_of (module_of t))) (n : ℕ) (e : n ≡ reach 0 (module_said t)) where
   -- ── No listing ──────────────────────────────────────────────────────────────────────────
 
-  pub none_written : (out : Bytes) → past ≤ n → answer_written (W.Refused (R.CannotFollow 0)) out ≡ write_tables t out
+  pub none_written : (out : Bytes) → past ≤ n → answer_written (Err (R.CannotFollow 0)) out ≡ write_tables t out
   unfolding answer_written write_tables written_of numbers with_chunk fields put_result
   none_written out h =
       sym (ap (λ (r : Result Bytes). put_result r out)
@@ -97,14 +97,14 @@ module _ (t : List ℕ) (s : Says (module_said t) (Passing t) (listing_of (modul
         let p = s.only text said in
         text_given t p.0 (omega (arith, ap length p.1, long)) ∙ ap ok (sym p.1)
 
-    pub short_written : (out : Bytes) (m : ℕ) → m ≡ n → length out < n → answer_written (W.Refused (R.BufferTooShort m)) out ≡ write_tables t out
+    pub short_written : (out : Bytes) (m : ℕ) → m ≡ n → length out < n → answer_written (Err (R.BufferTooShort m)) out ≡ write_tables t out
     unfolding answer_written write_tables written_of numbers with_chunk fields put_result put lacking
     short_written out m d l =
         sym
         (ap (λ (r : Result Bytes). put_result r out) is ∙ ap (λ (b : Bool). put b text out) (lt-leb (length text) (length out) (omega (arith, long)))
         ∙ ap (λ (k : ℕ). lacking k out) (sym (d ∙ long)))
 
-    pub room_written : (out after : Bytes) (end m : ℕ) → m ≡ end → n ≤ length out → Put out 0 (module_said t) after end → answer_written (W.Length m) after ≡ write_tables t out
+    pub room_written : (out after : Bytes) (end m : ℕ) → m ≡ end → n ≤ length out → Put out 0 (module_said t) after end → answer_written (Ok m) after ≡ write_tables t out
     unfolding answer_written write_tables written_of put_result put text_in made
     room_written out after end m d l w =
         let f : m ≡ length text = d ∙ w.place ∙ sym e ∙ long in
@@ -116,7 +116,7 @@ module _ (t : List ℕ) (s : Says (module_said t) (Passing t) (listing_of (modul
 
 -- ── Read, then written ────────────────────────────────────────────────────────────────────
 
-pub back : (t : List ℕ) (before : Bytes) (a : Answered) (after : Bytes) → answer_written a after ≡ write_tables t before → WrittenBack t before a after
+pub back : (t : List ℕ) (before : Bytes) (a : Outcome ℕ Refusal) (after : Bytes) → answer_written a after ≡ write_tables t before → WrittenBack t before a after
 unfolding answer_written write_tables text_of put_result put
 back t before a after e bs r x l =
     let w : write_tables t before ≡ record { answer = ok (length bs); buffer = bs ++ drop (length bs) before } =
@@ -147,7 +147,7 @@ unfolding text_of
 text_read true m bs e = written_read m bs e
 text_read false m bs e = absurd (no_ok e)
 
-pub again : (t : List ℕ) (before : Bytes) (a : Answered) (after : Bytes) → answer_written a after ≡ write_tables t before → ReadAgain t a after
+pub again : (t : List ℕ) (before : Bytes) (a : Outcome ℕ Refusal) (after : Bytes) → answer_written a after ≡ write_tables t before → ReadAgain t a after
 unfolding answer_written write_tables
 again t before a after e n f =
     let p = first_of (text_of (is_exact t) (module_of t)) before n (sym (ap (λ (y : Written). y.answer) e) ∙ f) in

@@ -18,7 +18,7 @@ ghost use Rattle.writer.specs.Say.{number_said, shape_said, value_said, say, slo
 ghost use Rattle.writer.specs.Say.{operands_said, entry_said, rows_said, tables_said, close_said, chunk_said, chunk_follows, all_used, chunks_said};
 ghost use Rattle.writer.specs.Say.{counts_fit, is_headed, module_said};
 
-use answer::{Refusal, Written};
+use answer::Refusal;
 use bytecode::ops;
 use listing::{form, sort, words};
 
@@ -535,7 +535,7 @@ fn put_module(forms: &[u8; 176], names: &[u64; 781], t: &[u64], out: &mut [u8]) 
 }
 
 // Writes the module that the tables say as its listing, which is measured first, where the buffer has room for it; else, and where no listing gives it, the buffer is left as it is.
-pub fn write(t: &[u64; 22232], out: &mut [u8]) -> Written
+pub fn write(t: &[u64; 22232], out: &mut [u8]) -> Result<u64, Refusal>
     ensures equal { answer_written result out.new ≡ write_tables t.now out.old }
     ensures written_back { WrittenBack t.now out.old result out.new × ReadAgain t.now result out.new }
 {
@@ -545,11 +545,11 @@ pub fn write(t: &[u64; 22232], out: &mut [u8]) -> Written
     let n = put_module(&forms, &names, t, &mut measure);
     let room = out.len();
     if PAST <= n {
-        return Written::Refused(Refusal::CannotFollow(0));
+        return Err(Refusal::CannotFollow(0));
     }
     if room < n {
-        return Written::Refused(Refusal::BufferTooShort(wide(n)));
+        return Err(Refusal::BufferTooShort(wide(n)));
     }
     let end = put_module(&forms, &names, t, out);
-    Written::Length(wide(end))
+    Ok(wide(end))
 }

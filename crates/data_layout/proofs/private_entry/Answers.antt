@@ -1,12 +1,15 @@
 -- `data_layout::private_entry` meets its contract. Assumes nothing.
-use Rattle.data_layout.proofs.Laws.{slot_past, offset_past, entry_in}
+use Rattle.std.proofs.Common.{rules}
+use Rattle.answer.specs.Answer.{found_in_none, numbers, fields, with_chunk}
+use Rattle.definition.specs.Basics.{first, unless}
+use Rattle.definition.specs.Layout.{entry_test}
+use Rattle.bytecode.specs.Parts.{private_of}
 use Rattle.data_layout.proofs.private_entry.Goals as goal
 
-pub returns-then-slot-slots : goal.returns-then-slot-slots
-returns-then-slot-slots c = slot_past c.args.slots c.args.pool c.args.i c.args.e c.if-slot-slots.true
-
-pub returns-then-offset-pool : goal.returns-then-offset-pool
-returns-then-offset-pool c = offset_past c.args.slots c.args.pool c.args.i c.args.e c.if-slot-slots.false c.if-offset-pool.true
+pub returns-else-entry-pool : goal.returns-else-entry-pool
+unfolding found_in_none numbers fields with_chunk entry_test first unless private_of
+returns-else-entry-pool c = search rules
 
 pub returns : goal.returns
-returns c = entry_in c.args.slots c.args.pool c.args.i c.args.e c.if-slot-slots.false c.if-offset-pool.false
+unfolding found_in_none numbers fields with_chunk entry_test first unless private_of
+returns c = search rules

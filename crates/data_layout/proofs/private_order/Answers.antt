@@ -1,15 +1,20 @@
 -- `data_layout::private_order` meets its contract. Assumes nothing.
-use Rattle.data_layout.proofs.Laws.{first_entry, slot_order, offset_order, in_order}
+use Rattle.std.proofs.Common.{rules}
+use Rattle.answer.specs.Answer.{found_in_none, numbers, fields, with_chunk}
+use Rattle.definition.specs.Basics.{first, unless}
+use Rattle.definition.specs.Layout.{order_test}
+use Rattle.bytecode.specs.Parts.{private_of}
+use Rattle.data_layout.specs.Answer.{before_of}
 use Rattle.data_layout.proofs.private_order.Goals as goal
 
-pub returns-then-slot-d : goal.returns-then-slot-d
-returns-then-slot-d c = slot_order c.args.i c.args.before c.args.e _ c.in-Entry.is c.if-slot-d.true
+pub returns-in_default : goal.returns-in_default
+unfolding found_in_none numbers fields with_chunk order_test before_of first unless private_of
+returns-in_default c = search rules
 
-pub returns-then-offset-d : goal.returns-then-offset-d
-returns-then-offset-d c = offset_order c.args.i c.args.before c.args.e _ c.in-Entry.is c.if-slot-d.false c.if-offset-d.true
+pub returns-in_default-2 : goal.returns-in_default-2
+unfolding found_in_none numbers fields with_chunk order_test before_of first unless private_of
+returns-in_default-2 c = search rules
 
-pub returns-in-Nothing : goal.returns-in-Nothing
-returns-in-Nothing c = first_entry c.args.i c.args.before c.args.e c.in-Nothing.is
-
-pub returns-else-offset-d : goal.returns-else-offset-d
-returns-else-offset-d c = in_order c.args.i c.args.before c.args.e _ c.in-Entry.is c.if-slot-d.false c.if-offset-d.false
+pub returns : goal.returns
+unfolding found_in_none numbers fields with_chunk order_test before_of first unless private_of
+returns c = search rules

@@ -1,12 +1,16 @@
 -- `data_layout::shared_slot` meets its contract. Assumes nothing.
-use Rattle.data_layout.proofs.Laws.{slot_out, slot_in, slot_unknown}
+use Rattle.std.proofs.Common.{rules}
+use Rattle.answer.specs.Answer.{found_in_none, numbers, fields, with_chunk}
+use Rattle.definition.specs.Basics.{unless}
+use Rattle.definition.specs.Layout.{shared_fits}
+use Rattle.bytecode.specs.Parts.{shared_of}
+use Rattle.data_layout.specs.Answer.{size_of}
 use Rattle.data_layout.proofs.shared_slot.Goals as goal
 
-pub returns-then-offset-size : goal.returns-then-offset-size
-returns-then-offset-size c = slot_out c.args.buffer c.args.i c.args.e c.args.s _ c.in-Bytes.is c.if-offset-size.true
+pub returns-in-Some : goal.returns-in-Some
+unfolding found_in_none numbers fields with_chunk shared_fits shared_of size_of unless
+returns-in-Some c = search rules
 
-pub returns-else-offset-size : goal.returns-else-offset-size
-returns-else-offset-size c = slot_in c.args.buffer c.args.i c.args.e c.args.s _ c.in-Bytes.is c.if-offset-size.false
-
-pub returns-in-Unknown : goal.returns-in-Unknown
-returns-in-Unknown c = slot_unknown c.args.buffer c.args.i c.args.e c.args.s c.in-Unknown.is
+pub returns-in_default : goal.returns-in_default
+unfolding found_in_none numbers fields with_chunk shared_fits shared_of size_of unless
+returns-in_default c = search rules

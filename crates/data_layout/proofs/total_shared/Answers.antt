@@ -1,22 +1,20 @@
--- `data_layout::total_shared` meets its contract. The total is that of the slots passed. Assumes nothing.
+-- `data_layout::total_shared` meets its contract: the chain gives the slots that it counts. Assumes nothing.
+use Rattle.std.proofs.Common.{rules, of_calls, ◌∙◌, ◌<◌, arith}
+use Rattle.std.proofs.lemmas.Iterator.{YieldsList-from_range, serves_from_Range}
+use Rattle.std.proofs.lemmas.Iterator.Consumers.{count_from_yields_List, YieldsList-from_filter}
 use Rattle.bytecode.specs.Tables.{cap}
 use Rattle.bytecode.specs.Meaning.{count_low}
-use Rattle.data_layout.proofs.Laws.{count_start, count_more, count_past, count_end}
-use native.Mathlib.Omega.{arith}
+use Rattle.data_layout.proofs.Laws.{shares, shared_is, counted}
 use Rattle.data_layout.proofs.total_shared.Goals as goal
 
-pub loop-i-init : goal.loop-i-init
-loop-i-init c = (omega arith, count_start c.args.t.now)
-
-pub slot_shared-requires : goal.slot_shared-requires
+pub count-requires-2-clause-can : goal.count-requires-2-clause-can
 unfolding cap
-slot_shared-requires c = omega (arith, c.count-n.ensures, count_low c.args.t.now 1)
-
-pub loop-i-preserved-then-slot_shared : goal.loop-i-preserved-then-slot_shared
-loop-i-preserved-then-slot_shared c = (omega arith, count_more c.args.t.now c.loop-i.i (omega (arith, c.count-n.ensures)) c.loop-i.total c.slot_shared.result c.if-slot_shared.true c.slot_shared.ensures c.loop-i.invariant.1)
-
-pub loop-i-preserved : goal.loop-i-preserved
-loop-i-preserved c = (omega arith, count_past c.args.t.now c.loop-i.i (omega (arith, c.count-n.ensures)) c.loop-i.total c.slot_shared.result c.if-slot_shared.false c.slot_shared.ensures c.loop-i.invariant.1)
+count-requires-2-clause-can c =
+    let n : c.count.result < 257 = omega (arith, c.count.ensures, count_low c.args.t.now 1) in
+    (tt, tt, serves_from_Range (λ x q e. search rules) (λ x a b. search (of_calls, rules)))
 
 pub returns : goal.returns
-returns c = count_end c.args.t.now c.loop-i.i c.loop-i.total (omega (arith, c.count-n.ensures)) c.loop-i.invariant.1
+returns c =
+    count_from_yields_List c.filter.result c.count-2.result c.count-2.ensures.ran
+    (YieldsList-from_filter _ (shares c.args.t.now) (YieldsList-from_range 0 c.count.result c.count.result (cc) (omega arith)) c.filter.ensures.closure (λ x b q k. (search rules, shared_is _ _ (search rules))))
+    ∙ counted c.args.t.now c.count.result c.count.ensures

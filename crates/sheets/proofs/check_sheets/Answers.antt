@@ -1,9 +1,15 @@
 -- `sheets::check_sheets` meets its contract. Assumes nothing.
-use Rattle.sheets.proofs.Laws.{too_short, enough}
+use Rattle.std.proofs.Common.{rules, arith}
+use Rattle.std.proofs.lemmas.Grind.{common_steps}
+use Rattle.definition.specs.Basics.{unless}
+use Rattle.definition.specs.Check.{sheets_test}
+use Rattle.answer.specs.Answer.{found_in_none, numbers, fields, with_chunk}
 use Rattle.sheets.proofs.check_sheets.Goals as goal
 
 pub returns-then-length-instructions : goal.returns-then-length-instructions
-returns-then-length-instructions c = too_short _ c.args.heights c.args.blinds c.all_instructions-instructions.result c.least-length.result c.all_instructions-instructions.ensures c.least-length.ensures c.if-length-instructions.true
+unfolding found_in_none numbers fields with_chunk sheets_test unless
+returns-then-length-instructions c = search rules
 
 pub returns : goal.returns
-returns c = enough _ c.args.heights c.args.blinds c.all_instructions-instructions.result c.least-length.result c.all_instructions-instructions.ensures c.least-length.ensures c.if-length-instructions.false
+unfolding found_in_none numbers fields with_chunk sheets_test unless
+returns c = grind (arith, common_steps)

@@ -1,0 +1,42 @@
+ghost use Rattle.std.specs.Prelude.{◌+◌, ◌≤◌};
+
+use crate::part::Part;
+use bytecode;
+
+// The instructions of a chunk, as the tables have them.
+#[derive(Clone, Copy)]
+pub struct Code<'a> {
+    pub tables: &'a [u64],
+    pub first: usize,
+    pub size: u16,
+    pub ghost inside: { first + size ≤ 4096 },
+}
+
+impl<'a> Code<'a> {
+    ghost use Rattle.std.specs.Prelude.{◌≡◌, ◌<◌};
+    ghost use Rattle.bytecode.specs.Meaning.{chunk_of};
+    ghost use Rattle.nesting.specs.Codes.{part_in, CodeIs};
+
+    pub fn of_chunk(tables: &'a [u64], k: usize) -> Code<'a>
+        requires { k < 64 }
+        ensures { CodeIs tables.now k result }
+    {
+        let span = bytecode::instructions_of(tables, k);
+        Code {
+            tables,
+            first: span.first,
+            size: span.count as u16,
+        }
+    }
+
+    // The part of the instruction at p; past the chunk's end there is none.
+    pub fn part_at(&self, p: u16) -> Part
+        ensures { result ≡ part_in self.now p }
+    {
+        if p < self.size {
+            Part::of(bytecode::instr_at(self.tables, self.first + usize::from(p)))
+        } else {
+            Part::Other
+        }
+    }
+}
