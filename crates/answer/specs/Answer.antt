@@ -5,8 +5,6 @@ use Rattle.definition.specs.Basics.{Result, ok, refused}
 use Rattle.definition.specs.Check.{Answer as AnyAnswer, accepted, refusal as refusing}
 use Rattle.answer.specs.declared.Refusal.{Refusal}
 use Rattle.answer.specs.declared.Refusal.TheVariants as R
-use Rattle.answer.specs.declared.Verdict.{Verdict}
-use Rattle.answer.specs.declared.Verdict.TheVariants as case
 use Rattle.answer.specs.declared.Refused.{Refused}
 use Rattle.answer.specs.declared.Accepted.{Accepted}
 use Rattle.answer.specs.Codes.{limit_number, private_number, shared_number}
@@ -44,9 +42,9 @@ unfoldable pub numbers : ℕ → Refusal → List ℕ
 numbers k r = with_chunk k (fields r)
 
 -- as the definitions have it inside one chunk
-unfoldable pub refusal : Verdict → Option (List ℕ)
-refusal case.Passed = none
-refusal (case.Refused r) = some (fields r)
+unfoldable pub refusal : {A : Type 0} → Outcome A Refusal → Option (List ℕ)
+refusal (Ok _) = none
+refusal (Err r) = some (fields r)
 
 -- no refusal
 abbrev pub is_none : Option (List ℕ) → Bool

@@ -2,7 +2,7 @@
 #![tactic(auto)]
 
 ghost use Rattle.std.specs.Prelude.{◌≡◌, ◌≤◌};
-ghost use Rattle.answer.specs.Answer.{numbers, refusal, is_none, refused_numbers, answer_of, written_of};
+ghost use Rattle.answer.specs.Answer.{numbers, refused_numbers, answer_of, written_of};
 ghost use Rattle.answer.specs.Numbers.{values_of, values_of_written, row_of};
 
 pub mod limit;
@@ -55,25 +55,6 @@ pub enum Refusal {
     SharedLayoutCountMismatch(u64, u64, SharedReason),
     // 20: the length needed
     BufferTooShort(u64),
-}
-
-// Of an instruction, or of a stretch of one chunk.
-#[derive(Clone, Copy)]
-pub enum Verdict {
-    Passed,
-    Refused(Refusal),
-}
-
-impl Verdict {
-    #[tactic(auto, unfolding(crate::specs::Answer::refusal))]
-    pub fn passed(self) -> bool
-        ensures { result ≡ is_none (refusal self) }
-    {
-        match self {
-            Verdict::Passed => true,
-            Verdict::Refused(_) => false,
-        }
-    }
 }
 
 // A refusal with its chunk, 0 where there is none.

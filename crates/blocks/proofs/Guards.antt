@@ -3,43 +3,34 @@ use mathlib.Core.Path.{◌≡◌, refl, sym, ap, subst, ◌∙◌}
 use mathlib.Core.Bool.{Bool, true, false}
 use mathlib.Core.Option.{Option, none}
 use mathlib.Core.List.{List}
-use Prim.Native.Nat.{ℕ, ◌-◌, ◌≤◌}
+use Prim.Native.Nat.{ℕ, suc, ◌+◌, ◌≤◌}
 use native.Mathlib.Omega.{arith}
 use borrow.Author.Tests.{le-leb}
-use lib.ListN.{length, drop, length-drop}
-use Rattle.definition.specs.Basics.{first, pass, unless}
+use lib.ListN.{length, drop, set, length-drop}
+use Rattle.std.specs.Prelude.{Result as Outcome, Ok, Err}
+use Rattle.definition.specs.Basics.{ok, refused, first, pass, unless}
 use Rattle.definition.specs.Instructions.{Instr as AnyInstr, Jump, Chunk, Control, onward, stops, returns, resets, end_if, end_loop, ends, if_to, else_to, loop_to}
 use Rattle.definition.specs.Instructions.{break_to, break_if_to, control, jump_control}
 use Rattle.definition.specs.Effects.{need, takes, pushes, set_local, write, jump_need}
 use Rattle.definition.specs.Tests.{is_blind, reading, reading_test, other_tests}
-use Rattle.definition.specs.Walk.{State as AnyState, height, after, mark_blind, examine, floor_test, need_test, height_test}
+use Rattle.definition.specs.Walk.{State as AnyState, height, after, mark, mark_blind, examine, height_test}
 use Rattle.theorems.specs.Cover.{no_false}
 use Rattle.frame.specs.declared.State.{State}
 use Rattle.frame.specs.Model.{state_of, stack_of, popped}
-use Rattle.frame.proofs.Stores.{pop_law}
-use Rattle.bytecode.specs.Meaning.{first_op}
-use Rattle.answer.specs.Answer.{is_none, refusal}
+use Rattle.bytecode.specs.Meaning.{chunk_base}
+use Rattle.answer.specs.declared.Refusal.{Refusal}
+use Rattle.answer.specs.Answer.{refusal, fields}
+use Rattle.rules.specs.declared.chunk.Context.{Context}
+use Rattle.rules.specs.Answers.{chunk_in}
 use Rattle.rules.specs.Rules.{own_tests}
-use Rattle.answer.specs.declared.Verdict.{Verdict}
-use Rattle.blocks.specs.Visits.{StepIn}
-use Rattle.rules.specs.declared.Ctx.{Ctx}
-use Rattle.rules.proofs.Tests.{is_none_eq}
-use Rattle.rules.proofs.Steps.{examine_step, examine_stop}
-use Rattle.blocks.specs.Visits.{chunk_in, instr_in, Examined, mark_in, Guarded}
+use Rattle.apply.proofs.Steps.{examine_goes, examine_stops}
 use Rattle.stretch.specs.Stretch.{sheets_of}
-use Rattle.blocks.proofs.Laws.{height_is, marked}
-
--- the state with its n top operands taken
-abbrev pub lowered : ℕ → State → State
-lowered n s = record { height = s.height - n; slots = s.slots; places = s.places }
-
--- an examination with this verdict, that takes n operands
-abbrev pub guarded_step : Verdict → ℕ → State → StepIn
-guarded_step v n s = record { verdict = v; blind = false; state = lowered n s }
+use Rattle.blocks.specs.Visits.{instr_in, Guarded}
+use Rattle.blocks.proofs.Laws.{height_is}
 
 -- ── One jump ──────────────────────────────────────────────────────────────────────────────
 
-module _ (c : Chunk) (j : Jump) (ip floor : ℕ) (s : AnyState) (h n : ℕ) (hh : h ≡ height s) (hn : n ≡ need c (AnyInstr.jump j)) (low : h ≤ 64) where
+module _ (c : Chunk) (j : Jump) (ip : ℕ) (s : AnyState) (low : height s ≤ 64) where
   takes_all : after c (AnyInstr.jump j) s ≡ popped (need c (AnyInstr.jump j)) s
   unfolding after takes need pushes set_local write
   takes_all = refl
@@ -47,22 +38,18 @@ module _ (c : Chunk) (j : Jump) (ip floor : ℕ) (s : AnyState) (h n : ℕ) (hh 
   room : height_test ip (height (popped (need c (AnyInstr.jump j)) s)) ≡ none
   unfolding height_test unless
   room =
-      let l : length (drop (need c (AnyInstr.jump j)) s.stack) ≤ 64 = omega (arith, hh, low, length-drop (need c (AnyInstr.jump j)) s.stack) in
+      let l : length (drop (need c (AnyInstr.jump j)) s.stack) ≤ 64 = omega (arith, low, length-drop (need c (AnyInstr.jump j)) s.stack) in
       rw (le-leb (length (drop (need c (AnyInstr.jump j)) s.stack)) 64 l)
 
   no_tests : none ≡ first (own_tests c ip (AnyInstr.jump j) s.stack) (height_test ip (height (after c (AnyInstr.jump j) s)))
   unfolding first reading reading_test other_tests
   no_tests = sym (ap (λ (z : AnyState). height_test ip (height z)) takes_all ∙ room)
 
-  module _ (d : Option (List ℕ)) (e : d ≡ first (floor_test ip floor h n) (need_test ip h n)) where
-    jump_passed : is_none d ≡ true → pass d (popped n s) ≡ examine c ip floor (AnyInstr.jump j) s
-    jump_passed f =
-        ap (λ (z : Option (List ℕ)). pass z (popped n s)) (is_none_eq d f ∙ no_tests)
-        ∙ ap (pass (first (own_tests c ip (AnyInstr.jump j) s.stack) (height_test ip (height (after c (AnyInstr.jump j) s))))) (ap (λ (z : ℕ). popped z s) hn ∙ sym takes_all)
-        ∙ examine_step c ip floor (AnyInstr.jump j) s h n hh hn d e f
-
-    jump_stopped : (a : AnyState) → is_none d ≡ false → pass d a ≡ examine c ip floor (AnyInstr.jump j) s
-    jump_stopped a f = examine_stop c ip floor (AnyInstr.jump j) s h n hh hn d a e f
+  -- after the tests of 12 and 5
+  left : pass (first (own_tests c ip (AnyInstr.jump j) s.stack) (height_test ip (height (after c (AnyInstr.jump j) s)))) (after c (AnyInstr.jump j) s)
+      ≡ ok (popped (need c (AnyInstr.jump j)) s)
+  unfolding pass
+  left = ap (λ (z : Option (List ℕ)). pass z (after c (AnyInstr.jump j) s)) (sym no_tests) ∙ ap ok takes_all
 
 -- ── Which instructions ────────────────────────────────────────────────────────────────────
 
@@ -133,31 +120,42 @@ one_needed c i e q g =
 
 -- ── The guard ─────────────────────────────────────────────────────────────────────────────
 
-module _ (t : List ℕ) (x : Ctx) (ip floor : ℕ) (s : State) (n : ℕ) (h h' : List ℕ) (v : Verdict) (G : Guarded x n ip floor s.height h h' v)
-    {k : Control} (leads : control (instr_in t x ip) ≡ k) (g : Guard k) (needs : n ≡ need (chunk_in t x) (instr_in t x ip)) (low : s.height ≤ 64) where
+module _ (x : Context) (ip : ℕ) (s : State) {k : Control} (leads : control (instr_in x ip) ≡ k) (g : Guard k) where
+  abbrev S : AnyState
+  S = state_of x.locals s
+
   -- the instruction, as a jump
-  there : (j : Jump) × (instr_in t x ip ≡ AnyInstr.jump j)
-  there = is_jump (instr_in t x ip) (subst Guard (sym leads) g)
+  there : (j : Jump) × (instr_in x ip ≡ AnyInstr.jump j)
+  there = is_jump (instr_in x ip) (subst Guard (sym leads) g)
 
-  not_blind : false ≡ is_blind (reading (chunk_in t x) (instr_in t x ip)) (stack_of s)
+  not_blind : false ≡ is_blind (reading (chunk_in x) (instr_in x ip)) (stack_of s)
   unfolding is_blind reading
-  not_blind = ap (λ (z : AnyInstr). is_blind (reading (chunk_in t x) z) (stack_of s)) (sym there.1)
+  not_blind = ap (λ (z : AnyInstr). is_blind (reading (chunk_in x) z) (stack_of s)) (sym there.1)
 
-  by_verdict : (b : Bool) → is_none (refusal v) ≡ b → pass (refusal v) (state_of x.locals (lowered n s)) ≡ examine (chunk_in t x) ip floor (AnyInstr.jump there.0) (state_of x.locals s)
-  by_verdict true e =
-      ap (pass (refusal v)) (pop_law s n x.locals (G.room (is_none_eq _ e)))
-      ∙ jump_passed (chunk_in t x) there.0 ip floor (state_of x.locals s) s.height n (sym (height_is x.locals s)) (needs ∙ ap (need (chunk_in t x)) there.1) low (refusal v) G.tests e
-  by_verdict false e =
-      jump_stopped (chunk_in t x) there.0 ip floor (state_of x.locals s) s.height n (sym (height_is x.locals s)) (needs ∙ ap (need (chunk_in t x)) there.1) low (refusal v) G.tests _ e
+  module _ (n floor : ℕ) (h h' : List ℕ) where
+    -- both sheets after it
+    pub guard_marked : {r : Outcome Unit Refusal} → Guarded (x.first + ip) n ip floor s.height h h' r → (bl : List ℕ) → sheets_of h' bl ≡ mark (chunk_in x) ip (instr_in x ip) S (sheets_of h bl)
+    unfolding mark mark_blind
+    guard_marked G bl =
+        let base : (chunk_in x).base ≡ x.first = chunk_base x.tables.now x.chunk ∙ sym x.of.first_is in
+        ap (λ (l : List ℕ). sheets_of l bl)
+        (G.marks ∙ ap (λ (m : ℕ). set h (m + ip) (suc s.height)) (sym base) ∙ ap (λ (m : ℕ). set h ((chunk_in x).base + ip) (suc m)) (sym (height_is x.locals s)))
+        ∙ ap (λ (z : Bool). sheets_of (set h ((chunk_in x).base + ip) (suc (height S))) (mark_blind z ((chunk_in x).base + ip) bl)) not_blind
 
-  pub guard_examined : Examined t x ip floor s (guarded_step v n s)
-  guard_examined =
-      record {
-        result = by_verdict (is_none (refusal v)) refl ∙ ap (λ (z : AnyInstr). examine (chunk_in t x) ip floor z (state_of x.locals s)) (sym there.1);
-        blind = not_blind;
-        low = omega (arith, low);
-      }
+    module _ (needs : n ≡ need (chunk_in x) (instr_in x ip)) where
+      as_jump : n ≡ need (chunk_in x) (AnyInstr.jump there.0)
+      as_jump = needs ∙ ap (need (chunk_in x)) there.1
 
-  pub guard_marked : (b : List ℕ) → x.first ≡ first_op t x.chunk → sheets_of h' b ≡ mark_in t x ip s (sheets_of h b)
-  unfolding mark_blind
-  guard_marked b f = marked t x ip s h b h' b false f not_blind G.marks refl
+      pub guard_passed : s.height ≤ 64 → Guarded (x.first + ip) n ip floor s.height h h' (Ok tt) → examine (chunk_in x) ip floor (instr_in x ip) S ≡ ok (popped n S)
+      unfolding refusal
+      guard_passed low G =
+          ap (λ (z : AnyInstr). examine (chunk_in x) ip floor z S) there.1
+          ∙ sym (examine_goes (chunk_in x) ip floor (AnyInstr.jump there.0) S s.height n (height_is x.locals s) as_jump G.tests)
+          ∙ left (chunk_in x) there.0 ip S (subst (λ (z : ℕ). z ≤ 64) (sym (height_is x.locals s)) low)
+          ∙ ap (λ (z : ℕ). ok (popped z S)) (sym as_jump)
+
+      pub guard_refused : (f : Refusal) → Guarded (x.first + ip) n ip floor s.height h h' (Err f) → examine (chunk_in x) ip floor (instr_in x ip) S ≡ refused (fields f)
+      unfolding refusal pass
+      guard_refused f G =
+          ap (λ (z : AnyInstr). examine (chunk_in x) ip floor z S) there.1
+          ∙ sym (examine_stops (chunk_in x) ip floor (AnyInstr.jump there.0) S s.height n (height_is x.locals s) as_jump f S G.tests)

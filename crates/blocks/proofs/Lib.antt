@@ -1,5 +1,5 @@
 pub mod Codes
 pub mod Laws
-pub mod Start
-pub mod Steps
 pub mod Guards
+pub mod Steps
+pub mod Start

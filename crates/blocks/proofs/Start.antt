@@ -1,7 +1,7 @@
 -- The locals in which a walk begins.
 use mathlib.Core.Path.{◌≡◌, refl, sym, ap, ◌∙◌}
 use mathlib.Core.List.{List, [], ◌∷◌, map}
-use Prim.Native.Nat.{ℕ, zero, suc, ◌+◌, ◌≤◌, ◌<◌}
+use Prim.Native.Nat.{ℕ, zero, suc, ◌+◌, ◌<◌}
 use native.Mathlib.Omega.{arith}
 use lib.ListN.{get_or, set, replicate}
 use Rattle.definition.specs.Shapes.{Shape, unknown, from_wire}
@@ -10,15 +10,13 @@ use Rattle.definition.specs.Module.{no_sig}
 use Rattle.definition.specs.Walk.{params, start_locals}
 use Rattle.frame.specs.declared.State.{State}
 use Rattle.frame.specs.Model.{state_of, with_local}
-use Rattle.bytecode.specs.Meaning.{known_sigs, chunk_sig}
-use Rattle.rules.specs.declared.Ctx.{Ctx}
-use Rattle.blocks.specs.Visits.{chunk_in}
+use Rattle.bytecode.specs.Meaning.{chunk_of, known_sigs, chunk_sig}
 
 -- ── Locals ────────────────────────────────────────────────────────────────────────────────
 
-pub param_is : (t : List ℕ) (x : Ctx) (i : ℕ) (v : Shape) → v ≡ get_or (map from_wire (get_or (known_sigs t) x.chunk no_sig).params) i unknown → v ≡ get_or (params (chunk_in t x)) i unknown
+pub param_is : (t : List ℕ) (k i : ℕ) (v : Shape) → v ≡ get_or (map from_wire (get_or (known_sigs t) k no_sig).params) i unknown → v ≡ get_or (params (chunk_of t k)) i unknown
 unfolding params
-param_is t x i v e = e ∙ ap (λ (g : Sig). get_or (map from_wire g.params) i unknown) (sym (chunk_sig t x.chunk))
+param_is t k i v e = e ∙ ap (λ (g : Sig). get_or (map from_wire g.params) i unknown) (sym (chunk_sig t k))
 
 -- n locals of which the first i are parameters
 pub filled : ℕ → ℕ → List Shape → List Shape
@@ -43,28 +41,24 @@ filled_more (suc i) (suc n) (p ∷ ps) h = ap (λ (l : List Shape). p ∷ l) (fi
 
 -- the first i locals are set
 pub record Starting (locals i : ℕ) (ps : List Shape) (s : State) : Type 0 where
-  pub few : i ≤ locals
-  pub flat : s.height ≡ 0
   pub state : state_of locals s ≡ record { stack = []; locals = filled i locals ps }
 
-pub starting_none : (locals : ℕ) (ps : List Shape) (s : State) → s.height ≡ 0 → state_of locals s ≡ record { stack = []; locals = replicate locals unknown } → Starting locals 0 ps s
+pub starting_none : (locals : ℕ) (ps : List Shape) (s : State) → state_of locals s ≡ record { stack = []; locals = replicate locals unknown } → Starting locals 0 ps s
 unfolding filled
-starting_none locals ps s h e = record { few = omega arith; flat = h; state = e }
+starting_none locals ps s e = record { state = e }
 
-pub starting_more : (locals i : ℕ) (ps : List Shape) (s r : State) → i < locals → Starting locals i ps s → r.height ≡ s.height →
+pub starting_more : (locals i : ℕ) (ps : List Shape) (s r : State) → i < locals → Starting locals i ps s →
     state_of locals r ≡ with_local i (get_or ps i unknown) (state_of locals s) → Starting locals (i + 1) ps r
-starting_more locals i ps s r h S g e =
+starting_more locals i ps s r h S e =
     record {
-      few = omega arith;
-      flat = g ∙ S.flat;
       state =
           e ∙ ap (with_local i (get_or ps i unknown)) S.state
           ∙ ap (λ (l : List Shape). record { stack = []; locals = l }) (filled_more i locals ps h)
           ∙ ap (λ (n : ℕ). record { stack = []; locals = filled n locals ps }) (let q : suc i ≡ i + 1 = omega arith in q);
     }
 
-pub starting_all : (locals i : ℕ) (ps : List Shape) (s : State) → locals ≤ i → Starting locals i ps s → state_of locals s ≡ record { stack = []; locals = start_locals locals ps }
-starting_all locals i ps s h S =
+pub starting_all : (locals i : ℕ) (ps : List Shape) (s : State) → i ≡ locals → Starting locals i ps s → state_of locals s ≡ record { stack = []; locals = start_locals locals ps }
+starting_all locals i ps s e S =
     S.state
-    ∙ ap (λ (n : ℕ). record { stack = []; locals = filled n locals ps }) (let q : i ≡ locals = omega (arith, S.few) in q)
+    ∙ ap (λ (n : ℕ). record { stack = []; locals = filled n locals ps }) e
     ∙ ap (λ (l : List Shape). record { stack = []; locals = l }) (filled_all locals ps)

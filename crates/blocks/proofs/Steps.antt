@@ -1,136 +1,67 @@
--- One instruction of a walk, by where it leads: what the definition's walk is there, from what its examination gave.
+-- One instruction of a walk, by where it leads: what the definition's walk is there, from what the code found.
 use mathlib.Core.Path.{◌≡◌, refl, sym, ap, ◌∙◌, subst}
 use mathlib.Core.Logic.{◌≢◌}
 use mathlib.Core.Bool.{Bool, true, false, ◌||◌}
 use mathlib.Core.Option.{none}
 use mathlib.Core.List.{List, [], ◌∷◌}
 use Prim.Native.Nat.{ℕ, zero, suc, ◌+◌, ◌-◌, ◌≤◌, ◌<◌}
+use native.Mathlib.Numerals.{add-one}
 use native.Mathlib.Omega.{arith}
 use lib.ListN.{set}
 use lib.Dec.{eqb, ltb}
 use borrow.Author.Tests.{ltb-false}
+use Rattle.std.specs.Prelude.{Ok, Err}
 use Rattle.definition.specs.Basics.{Result, ok, refused, ◌>>=◌}
-use Rattle.definition.specs.Instructions.{Instr as AnyInstr, Chunk, Control, stops, returns, if_to}
-use Rattle.definition.specs.Instructions.{break_to, break_if_to, control}
+use Rattle.definition.specs.Instructions.{Instr as AnyInstr, Chunk, Control, stops, if_to}
+use Rattle.definition.specs.Instructions.{break_if_to, control}
+use Rattle.definition.specs.Effects.{need}
 use Rattle.definition.specs.Tests.{is_blind}
 use Rattle.definition.specs.Nesting.{else_at}
-use Rattle.definition.specs.Walk.{State as AnyState, Sheets, Walker, Breaks as AnyBreaks, height, mark, mark_blind, add_break, examine}
+use Rattle.definition.specs.Walk.{State as AnyState, Sheets, Walked, Walker, Breaks as AnyBreaks, height, mark, mark_blind, add_break, examine}
 use Rattle.definition.specs.Walk.{walk_arms, walk_instr}
 use Rattle.theorems.specs.Facts.{is_quiet, quiet}
 use Rattle.theorems.specs.Cover.{no_false}
 use Rattle.theorems.specs.Fuel.{full}
 use Rattle.frame.specs.declared.State.{State}
-use Rattle.frame.specs.Model.{state_of}
-use Rattle.bytecode.specs.Meaning.{first_op, chunk_base}
-use Rattle.blocks.specs.Outcomes.{numbers, breaks_of, onward_of, rest_of}
-use Rattle.rules.specs.Answers.{values_of}
-use Rattle.answer.specs.Answer.{is_none, refusal, fields}
-use Rattle.blocks.specs.Visits.{chunk_in, instr_in, Examined, mark_in, visit_in, Quietly}
-use Rattle.stretch.specs.Stretch.{leads}
-use Rattle.stretch.specs.Stretch.{sheets_of, straight}
-use Rattle.stretch.proofs.Laws.{Tested, passed_is, refused_is, instr_refused}
-use Rattle.answer.specs.declared.Verdict.TheVariants.{Refused as Fault}
-use Rattle.answer.specs.declared.Refusal.TheVariants.{NotNested}
-use Rattle.blocks.specs.declared.Flow.TheVariants.{Refused, Ended, Falls}
-use Rattle.blocks.specs.Visits.{StepIn}
-use Rattle.blocks.specs.Outcomes.{BreaksIn}
-use Rattle.blocks.specs.Outcomes.{OnwardIn}
-use Rattle.rules.specs.declared.Ctx.{Ctx}
+use Rattle.frame.specs.Model.{state_of, popped}
+use Rattle.bytecode.specs.Meaning.{chunk_base}
+use Rattle.answer.specs.declared.Refusal.{Refusal}
+use Rattle.answer.specs.Answer.{fields}
+use Rattle.rules.specs.declared.chunk.Context.{Context}
+use Rattle.rules.specs.Answers.{chunk_in}
+use Rattle.stretch.specs.Stretch.{leads, sheets_of, straight}
+use Rattle.stretch.proofs.Laws.{instr_refused}
+use Rattle.blocks.specs.Outcomes.{Standing}
+use Rattle.blocks.specs.Visits.{instr_in, visit_in, Coded, Guarded}
 use Rattle.blocks.proofs.Laws.{height_is}
+use Rattle.blocks.proofs.Guards.{guard_marked, guard_passed, guard_refused, one_needed}
 
 -- ── Where it leads ────────────────────────────────────────────────────────────────────────
 
-module _ (c : Chunk) (w : Walker) (ip end floor : ℕ) (s : AnyState) (b : AnyBreaks) (sh : Sheets) (i : AnyInstr) where
-  module _ (u : AnyState) (e : examine c ip floor i s ≡ ok u) where
-    pub instr_stops : walk_instr c w ip end floor s b sh i stops ≡ ok (record { fall = none; breaks = b; sheets = mark c ip i s sh })
-    unfolding walk_instr ◌>>=◌
-    instr_stops = ap (λ (m : Result AnyState). m >>= λ (v : AnyState). ok (record { fall = none; breaks = b; sheets = mark c ip i s sh })) e
+module _ (c : Chunk) (w : Walker) (ip end floor : ℕ) (s : AnyState) (b : AnyBreaks) (sh : Sheets) (i : AnyInstr) (u : AnyState) (e : examine c ip floor i s ≡ ok u) where
+  instr_stops : walk_instr c w ip end floor s b sh i stops ≡ ok (record { fall = none; breaks = b; sheets = mark c ip i s sh })
+  unfolding walk_instr ◌>>=◌
+  instr_stops = ap (λ (m : Result AnyState). m >>= λ (v : AnyState). ok (record { fall = none; breaks = b; sheets = mark c ip i s sh })) e
 
-    pub instr_break_if : (t : ℕ) → walk_instr c w ip end floor s b sh i (break_if_to t) ≡ w (suc ip) end floor u (add_break b u) (mark c ip i s sh)
-    unfolding walk_instr ◌>>=◌
-    instr_break_if t = ap (λ (m : Result AnyState). m >>= λ (v : AnyState). w (suc ip) end floor v (add_break b v) (mark c ip i s sh)) e
+  instr_break_if : (t : ℕ) → walk_instr c w ip end floor s b sh i (break_if_to t) ≡ w (suc ip) end floor u (add_break b u) (mark c ip i s sh)
+  unfolding walk_instr ◌>>=◌
+  instr_break_if t = ap (λ (m : Result AnyState). m >>= λ (v : AnyState). w (suc ip) end floor v (add_break b v) (mark c ip i s sh)) e
 
-    pub instr_if : (t : ℕ) → walk_instr c w ip end floor s b sh i (if_to t) ≡ walk_arms w ip t end floor u b (mark c ip i s sh) (else_at c ip t)
-    unfolding walk_instr ◌>>=◌
-    instr_if t = ap (λ (m : Result AnyState). m >>= λ (v : AnyState). walk_arms w ip t end floor v b (mark c ip i s sh) (else_at c ip t)) e
-
--- ── What the code gives ───────────────────────────────────────────────────────────────────
-
-module _ (t : List ℕ) (x : Ctx) (ip floor : ℕ) (s : State) (b : BreaksIn) (sh : Sheets) (r : StepIn) (E : Examined t x ip floor s r) where
-  pub examined_ok : is_none (refusal r.verdict) ≡ true → examine (chunk_in t x) ip floor (instr_in t x ip) (state_of x.locals s) ≡ ok (state_of x.locals r.state)
-  examined_ok e = sym E.result ∙ passed_is x.locals r.verdict r.state e
-
-  examined_refused : is_none (refusal r.verdict) ≡ false →
-      examine (chunk_in t x) ip floor (instr_in t x ip) (state_of x.locals s) ≡ refused (numbers r.verdict)
-  unfolding numbers
-  examined_refused e = sym E.result ∙ refused_is x.locals r.verdict r.state e
-
-  -- a refused instruction
-  pub visit_refused : (k : Control) → Tested k → is_none (refusal r.verdict) ≡ false → (end : ℕ) (o : OnwardIn) (sh' : Sheets) →
-      o.out.flow ≡ Refused r.verdict → visit_in t x ip end floor s b sh k ≡ rest_of (chunk_in t x) x.locals end floor o sh'
-  unfolding onward_of
-  visit_refused k h e end o sh' f =
-      instr_refused (chunk_in t x) (full (chunk_in t x)) ip end floor (state_of x.locals s) (breaks_of x.locals b) sh (instr_in t x ip) k h _ (examined_refused e)
-      ∙ ap (onward_of (chunk_in t x) x.locals o.next end floor o.out sh') (sym f)
-
-  module _ (passed : is_none (refusal r.verdict) ≡ true) (end : ℕ) (o : OnwardIn) (sh' : Sheets) (m : sh' ≡ mark_in t x ip s sh) where
-    pub visit_stops : o.out.flow ≡ Ended → o.out.breaks ≡ b → visit_in t x ip end floor s b sh stops ≡ rest_of (chunk_in t x) x.locals end floor o sh'
-    unfolding onward_of
-    visit_stops f g =
-        instr_stops (chunk_in t x) (full (chunk_in t x)) ip end floor (state_of x.locals s) (breaks_of x.locals b) sh (instr_in t x ip) _ (examined_ok passed)
-        ∙ ap (λ (z : Sheets). ok (record { fall = none; breaks = breaks_of x.locals b; sheets = z })) (sym m)
-        ∙ ap (λ (z : BreaksIn). ok (record { fall = none; breaks = breaks_of x.locals z; sheets = sh' })) (sym g)
-        ∙ ap (onward_of (chunk_in t x) x.locals o.next end floor o.out sh') (sym f)
-
-    pub visit_break_if : (a : ℕ) → o.out.flow ≡ Falls → o.next ≡ ip + 1 → state_of x.locals o.out.state ≡ state_of x.locals r.state →
-        breaks_of x.locals o.out.breaks ≡ add_break (breaks_of x.locals b) (state_of x.locals r.state) →
-        visit_in t x ip end floor s b sh (break_if_to a) ≡ rest_of (chunk_in t x) x.locals end floor o sh'
-    unfolding onward_of
-    visit_break_if a f n u k =
-        let c : Chunk = chunk_in t x in
-        let v : AnyState = state_of x.locals r.state in
-        instr_break_if c (full c) ip end floor (state_of x.locals s) (breaks_of x.locals b) sh (instr_in t x ip) _ (examined_ok passed) a
-        ∙ ap (λ (z : ℕ). full c z end floor v (add_break (breaks_of x.locals b) v) (mark_in t x ip s sh)) (let q : suc ip ≡ o.next = omega arith in q)
-        ∙ ap (λ (z : AnyState). full c o.next end floor z (add_break (breaks_of x.locals b) v) (mark_in t x ip s sh)) (sym u)
-        ∙ ap (λ (z : AnyBreaks). full c o.next end floor (state_of x.locals o.out.state) z (mark_in t x ip s sh)) (sym k)
-        ∙ ap (λ (z : Sheets). full c o.next end floor (state_of x.locals o.out.state) (breaks_of x.locals o.out.breaks) z) (sym m)
-        ∙ ap (onward_of c x.locals o.next end floor o.out sh') (sym f)
-
--- ── Without tests ─────────────────────────────────────────────────────────────────────────
+  instr_if : (t : ℕ) → walk_instr c w ip end floor s b sh i (if_to t) ≡ walk_arms w ip t end floor u b (mark c ip i s sh) (else_at c ip t)
+  unfolding walk_instr ◌>>=◌
+  instr_if t = ap (λ (m : Result AnyState). m >>= λ (v : AnyState). walk_arms w ip t end floor v b (mark c ip i s sh) (else_at c ip t)) e
 
 -- Loop, Break and Return mark the height, and no blind entry.
-pub quiet_mark : (t : List ℕ) (x : Ctx) (ip : ℕ) (s : State) (h b h' : List ℕ) {k : Control} → control (instr_in t x ip) ≡ k → is_quiet k ≡ true →
-    x.first ≡ first_op t x.chunk → h' ≡ set h (x.first + ip) (suc s.height) → sheets_of h' b ≡ mark_in t x ip s (sheets_of h b)
+pub quiet_mark : (x : Context) (ip : ℕ) (s : State) (h bl h' : List ℕ) {k : Control} → control (instr_in x ip) ≡ k → is_quiet k ≡ true →
+    h' ≡ set h (x.first + ip) (suc s.height) → sheets_of h' bl ≡ mark (chunk_in x) ip (instr_in x ip) (state_of x.locals s) (sheets_of h bl)
 unfolding mark mark_blind is_blind
-quiet_mark t x ip s h b h' e q f m =
-    let c : Chunk = chunk_in t x in
-    let base : c.base ≡ x.first = chunk_base t x.chunk ∙ sym f in
+quiet_mark x ip s h bl h' e q m =
+    let c : Chunk = chunk_in x in
+    let base : c.base ≡ x.first = chunk_base x.tables.now x.chunk ∙ sym x.of.first_is in
     let S : AnyState = state_of x.locals s in
-    ap (λ (l : List ℕ). sheets_of l b)
+    ap (λ (l : List ℕ). sheets_of l bl)
     (m ∙ ap (λ (n : ℕ). set h (n + ip) (suc s.height)) (sym base) ∙ ap (λ (n : ℕ). set h (c.base + ip) (suc n)) (sym (height_is x.locals s)))
-    ∙ ap (λ (z : _). sheets_of (set h (c.base + ip) (suc (height S))) (mark_blind (is_blind z S.stack) (c.base + ip) b)) (sym (quiet c (instr_in t x ip) e q).reads)
-
-module _ (t : List ℕ) (x : Ctx) (ip end floor : ℕ) (s : State) (b : BreaksIn) (h bl h' : List ℕ) (o : OnwardIn) (f : x.first ≡ first_op t x.chunk) (code a : ℕ)
-    (there : control (instr_in t x ip) ≡ leads code a) (Q : Quietly x code ip s b h h' o) where
-  quiet_ended : (k : Control) → is_quiet k ≡ true → control (instr_in t x ip) ≡ k → (B : AnyBreaks) → B ≡ breaks_of x.locals o.out.breaks →
-      ok (record { fall = none; breaks = B; sheets = mark_in t x ip s (sheets_of h bl) }) ≡ rest_of (chunk_in t x) x.locals end floor o (sheets_of h' bl)
-  unfolding onward_of
-  quiet_ended k q e B g =
-      ap (λ (z : AnyBreaks). ok (record { fall = none; breaks = z; sheets = mark_in t x ip s (sheets_of h bl) })) g
-      ∙ ap (λ (z : Sheets). ok (record { fall = none; breaks = breaks_of x.locals o.out.breaks; sheets = z })) (sym (quiet_mark t x ip s h bl h' e q f Q.marks))
-      ∙ ap (onward_of (chunk_in t x) x.locals o.next end floor o.out (sheets_of h' bl)) (sym Q.ended)
-
-  pub visit_break : code ≡ 71 → visit_in t x ip end floor s b (sheets_of h bl) (leads code a) ≡ rest_of (chunk_in t x) x.locals end floor o (sheets_of h' bl)
-  unfolding walk_instr leads is_quiet
-  visit_break e =
-      let l : leads code a ≡ break_to a = ap (λ (k : ℕ). leads k a) e in
-      ap (visit_in t x ip end floor s b (sheets_of h bl)) l ∙ quiet_ended (break_to a) refl (there ∙ l) _ (sym (Q.breaks e))
-
-  pub visit_returns : code ≡ 74 → visit_in t x ip end floor s b (sheets_of h bl) (leads code a) ≡ rest_of (chunk_in t x) x.locals end floor o (sheets_of h' bl)
-  unfolding walk_instr leads is_quiet
-  visit_returns e =
-      let l : leads code a ≡ returns = ap (λ (k : ℕ). leads k a) e in
-      ap (visit_in t x ip end floor s b (sheets_of h bl)) l ∙ quiet_ended returns refl (there ∙ l) _ (sym (Q.returns (λ z. absurd (omega arith))))
+    ∙ ap (λ (z : _). sheets_of (set h (c.base + ip) (suc (height S))) (mark_blind (is_blind z S.stack) (c.base + ip) bl)) (sym (quiet c (instr_in x ip) e q).reads)
 
 -- ── Closers ───────────────────────────────────────────────────────────────────────────────
 
@@ -168,15 +99,88 @@ from_64 k n h e = omega arith
 below_75 : (k : ℕ) → 64 ≤ k → k < 75 → k - 64 < 11
 below_75 k h l = omega arith
 
--- Else, EndIf and EndLoop
-pub visit_closer : (t : List ℕ) (x : Ctx) (ip end floor : ℕ) (s : State) (b : BreaksIn) (sh sh' : Sheets) (o : OnwardIn) (k a : ℕ) → o.out.flow ≡ Refused (Fault (NotNested ip)) →
-    k < 75 → straight k ≡ false → k ≢ 64 → k ≢ 65 → k ≢ 66 → k ≢ 69 → k ≢ 71 → k ≢ 74 →
-    visit_in t x ip end floor s b sh (leads k a) ≡ rest_of (chunk_in t x) x.locals end floor o sh'
-unfolding onward_of numbers values_of refusal fields
-visit_closer t x ip end floor s b sh sh' o k a f l e n64 n65 n66 n69 n71 n74 =
-    let q = not_straight k e in
-    ap (λ (j : ℕ). visit_in t x ip end floor s b sh (leads j a)) (from_64 k (k - 64) q.0 refl)
-    ∙ closers (chunk_in t x) (full (chunk_in t x)) ip end floor (state_of x.locals s) (breaks_of x.locals b) sh (instr_in t x ip) a (k - 64) (below_75 k q.0 l)
-    (λ z. n64 (from_64 k 0 q.0 z)) (λ z. n65 (from_64 k 1 q.0 z)) (λ z. n66 (from_64 k 2 q.0 z)) (λ z. n69 (from_64 k 5 q.0 z))
-    (λ z. n71 (from_64 k 7 q.0 z)) (λ z. q.1 (from_64 k 8 q.0 z)) (λ z. q.2 (from_64 k 9 q.0 z)) (λ z. n74 (from_64 k 10 q.0 z))
-    ∙ ap (onward_of (chunk_in t x) x.locals o.next end floor o.out sh') (sym f)
+-- ── The visit ─────────────────────────────────────────────────────────────────────────────
+
+module _ (x : Context) (ip floor : ℕ) (s : State) (low : s.height ≤ 64) (b : AnyBreaks) (h h' : List ℕ) (code a : ℕ) (there : Coded x ip code a) (end : ℕ) (bl : List ℕ) where
+  abbrev S : AnyState
+  S = state_of x.locals s
+
+  abbrev p : Standing
+  p = record { state = S; breaks = b; sheets = sheets_of h bl }
+
+  abbrev c : Chunk
+  c = chunk_in x
+
+  abbrev visit : Control → Result Walked
+  visit k = visit_in x ip end floor p k
+
+  -- a path that ends, with these breaks
+  abbrev done : AnyBreaks → List ℕ → Result Walked
+  done k l = ok (record { fall = none; breaks = k; sheets = sheets_of l bl })
+
+  at : {k : ℕ} → code ≡ k → control (instr_in x ip) ≡ leads k a
+  at e = there ∙ ap (λ (j : ℕ). leads j a) e
+
+  led : {k : ℕ} → code ≡ k → visit (leads code a) ≡ visit (leads k a)
+  led e = ap (λ (j : ℕ). visit (leads j a)) e
+
+  module _ (n : ℕ) (needs : n ≡ need c (instr_in x ip)) (e : code ≡ 64) where
+    pub trap_refused : (f : Refusal) → Guarded (x.first + ip) n ip floor s.height h h' (Err f) → visit (leads code a) ≡ refused (fields f)
+    unfolding leads
+    trap_refused f G = led e ∙ instr_refused c (full c) ip end floor S b (sheets_of h bl) (instr_in x ip) stops tt _ (guard_refused x ip s (at e) tt n floor h h' needs f G)
+
+    pub trap_passed : Guarded (x.first + ip) n ip floor s.height h h' (Ok tt) → visit (leads code a) ≡ done b h'
+    unfolding leads
+    trap_passed G =
+        led e ∙ instr_stops c (full c) ip end floor S b (sheets_of h bl) (instr_in x ip) _ (guard_passed x ip s (at e) tt n floor h h' needs low G)
+        ∙ ap (λ (z : Sheets). ok (record { fall = none; breaks = b; sheets = z })) (sym (guard_marked x ip s (at e) tt n floor h h' G bl))
+
+  module _ (e : code ≡ 66) where
+    pub break_if_refused : (f : Refusal) → Guarded (x.first + ip) 1 ip floor s.height h h' (Err f) → visit (leads code a) ≡ refused (fields f)
+    unfolding leads
+    break_if_refused f G =
+        led e ∙ instr_refused c (full c) ip end floor S b (sheets_of h bl) (instr_in x ip) (break_if_to a) tt _ (guard_refused x ip s (at e) tt 1 floor h h' (one_needed c (instr_in x ip) (at e) refl tt) f G)
+
+    pub break_if_passed : Guarded (x.first + ip) 1 ip floor s.height h h' (Ok tt) → (u : AnyState) (k : AnyBreaks) → u ≡ popped 1 S → k ≡ add_break b u →
+        visit (leads code a) ≡ full c (ip + 1) end floor u k (sheets_of h' bl)
+    unfolding leads
+    break_if_passed G u k f g =
+        led e ∙ instr_break_if c (full c) ip end floor S b (sheets_of h bl) (instr_in x ip) _ (guard_passed x ip s (at e) tt 1 floor h h' (one_needed c (instr_in x ip) (at e) refl tt) low G) a
+        ∙ ap (λ (z : AnyState). full c (suc ip) end floor z (add_break b z) (mark c ip (instr_in x ip) S (sheets_of h bl))) (sym f)
+        ∙ ap (λ (z : AnyBreaks). full c (suc ip) end floor u z (mark c ip (instr_in x ip) S (sheets_of h bl))) (sym g)
+        ∙ ap (full c (suc ip) end floor u k) (sym (guard_marked x ip s (at e) tt 1 floor h h' G bl))
+        ∙ ap (λ (j : ℕ). full c j end floor u k (sheets_of h' bl)) (sym (add-one ip))
+
+  module _ (e : code ≡ 65) where
+    pub if_refused : (f : Refusal) → Guarded (x.first + ip) 1 ip floor s.height h h' (Err f) → visit (leads code a) ≡ refused (fields f)
+    unfolding leads
+    if_refused f G =
+        led e ∙ instr_refused c (full c) ip end floor S b (sheets_of h bl) (instr_in x ip) (if_to a) tt _ (guard_refused x ip s (at e) tt 1 floor h h' (one_needed c (instr_in x ip) (at e) refl tt) f G)
+
+    pub if_passed : Guarded (x.first + ip) 1 ip floor s.height h h' (Ok tt) → (u : AnyState) → u ≡ popped 1 S →
+        visit (leads code a) ≡ walk_arms (full c) ip a end floor u b (sheets_of h' bl) (else_at c ip a)
+    unfolding leads
+    if_passed G u f =
+        led e ∙ instr_if c (full c) ip end floor S b (sheets_of h bl) (instr_in x ip) _ (guard_passed x ip s (at e) tt 1 floor h h' (one_needed c (instr_in x ip) (at e) refl tt) low G) a
+        ∙ ap (λ (z : AnyState). walk_arms (full c) ip a end floor z b (mark c ip (instr_in x ip) S (sheets_of h bl)) (else_at c ip a)) (sym f)
+        ∙ ap (λ (z : Sheets). walk_arms (full c) ip a end floor u b z (else_at c ip a)) (sym (guard_marked x ip s (at e) tt 1 floor h h' G bl))
+
+  module _ (m : h' ≡ set h (x.first + ip) (suc s.height)) where
+    pub break_passed : code ≡ 71 → (k : AnyBreaks) → k ≡ add_break b S → visit (leads code a) ≡ done k h'
+    unfolding leads walk_instr is_quiet
+    break_passed e k g =
+        led e ∙ ap (λ (z : AnyBreaks). ok (record { fall = none; breaks = z; sheets = mark c ip (instr_in x ip) S (sheets_of h bl) })) (sym g)
+        ∙ ap (λ (z : Sheets). ok (record { fall = none; breaks = k; sheets = z })) (sym (quiet_mark x ip s h bl h' (at e) refl m))
+
+    pub returns_passed : code ≡ 74 → visit (leads code a) ≡ done b h'
+    unfolding leads walk_instr is_quiet
+    returns_passed e = led e ∙ ap (λ (z : Sheets). ok (record { fall = none; breaks = b; sheets = z })) (sym (quiet_mark x ip s h bl h' (at e) refl m))
+
+  -- Else, EndIf and EndLoop
+  pub closer_refused : code < 75 → straight code ≡ false → code ≢ 64 → code ≢ 65 → code ≢ 66 → code ≢ 69 → code ≢ 71 → code ≢ 74 → visit (leads code a) ≡ refused (3 ∷ ip ∷ [])
+  closer_refused l e n64 n65 n66 n69 n71 n74 =
+      let q = not_straight code e in
+      led (from_64 code (code - 64) q.0 refl)
+      ∙ closers c (full c) ip end floor S b (sheets_of h bl) (instr_in x ip) a (code - 64) (below_75 code q.0 l)
+      (λ z. n64 (from_64 code 0 q.0 z)) (λ z. n65 (from_64 code 1 q.0 z)) (λ z. n66 (from_64 code 2 q.0 z)) (λ z. n69 (from_64 code 5 q.0 z))
+      (λ z. n71 (from_64 code 7 q.0 z)) (λ z. q.1 (from_64 code 8 q.0 z)) (λ z. q.2 (from_64 code 9 q.0 z)) (λ z. n74 (from_64 code 10 q.0 z))

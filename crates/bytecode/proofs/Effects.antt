@@ -1,22 +1,17 @@
 -- Need and net of a run of codes, by computing them at each.
 use mathlib.Core.Path.{◌≡◌, refl, sym, ap, subst, ◌∙◌}
-use mathlib.Core.Bool.{Bool, true, false, cond, ◌||◌}
+use mathlib.Core.Bool.{Bool, true, false, ◌||◌}
 use mathlib.Core.Logic.{⊎_elim}
 use mathlib.Core.List.{List, [], ◌∷◌}
-use Prim.Native.Nat.{ℕ, zero, suc, ◌+◌, ◌-◌, ◌^◌, ◌%◌, ◌≤◌, ◌<◌}
-use native.Mathlib.Nat.{eq-or-lt_of_le, lt_trans}
+use Prim.Native.Nat.{ℕ, zero, suc, ◌+◌, ◌%◌, ◌≤◌, ◌<◌}
+use native.Mathlib.Nat.{eq-or-lt_of_le}
 use native.Mathlib.Omega.{arith}
-use borrow.Author.Tests.{eq-eqb, ne_eqb, le-leb, lt-leb}
-use lib.Dec.{leb, ltb, eqb, lit<}
+use lib.Dec.{leb, eqb}
 use lib.ListN.{length, get_elem?}
 use mathlib.Core.Option.{none}
 use native.Mathlib.Decide.{dec_lt}
 use Rattle.definition.specs.Shapes.{scalar}
 use lib.IntN.{ℤ, pos, negsuc, ◌-ℤ◌}
-use lib.Signed.{mag}
-use mir.Syntax.{w64}
-use mir.Val.{SFits, to_z, of_z}
-use mir.Facts.{to_z-of_z, to_z_pos}
 use Rattle.definition.specs.Basics.{choose}
 use Rattle.definition.specs.Instructions.{Chunk, Instr as AnyInstr}
 use Rattle.definition.specs.Ops.{ops, row, instr, instr_of, make_at}
@@ -25,54 +20,6 @@ use Rattle.definition.specs.Effects.{returned_native}
 use Rattle.bytecode.specs.Parts.{any_instr_of, index_pushed, native_pushed, trap_need, EffectIs}
 use Rattle.bytecode.specs.declared.Instr.{Instr}
 use Rattle.bytecode.specs.declared.Effect.{Effect}
-
--- ── The difference of two small numbers at 64 bits ────────────────────────────────────────
-
-mag_sub : (g n : ℕ) → mag (pos g -ℤ pos n) < g + n + 1
-mag_sub g zero = omega arith
-mag_sub g (suc n) = go (ltb g (suc n))
-  where
-    go : (t : Bool) → mag (cond t (negsuc (suc n - suc g)) (pos (g - suc n))) < g + suc n + 1
-    go true = omega arith
-    go false = omega arith
-
-module _ (g n : ℕ) (hg : g < 256) (hn : n < 4294967296) where
-  as_signed : pos g -ℤ pos n ≡ to_z w64 g -ℤ to_z w64 n
-  as_signed = rw (to_z_pos w64 (lt_trans hg (lit< tt)), to_z_pos w64 (lt_trans hn (lit< tt)))
-
-  pub net_fits : SFits w64 (to_z w64 g -ℤ to_z w64 n)
-  net_fits =
-      subst (SFits w64) as_signed (record { sfits = lt_trans (mag_sub g n) (let h : g + n + 1 < 2 ^ 63 = omega arith in h) })
-
-  pub net_is : to_z w64 (of_z w64 (to_z w64 g -ℤ to_z w64 n)) ≡ pos g -ℤ pos n
-  net_is = to_z-of_z net_fits ∙ sym as_signed
-
--- ── The three helpers ─────────────────────────────────────────────────────────────────────
-
-pub bounded : (k : ℕ) → (k ≡ 2 → ⊥) → (k ≡ 3 → ⊥) → index_pushed k ≡ 1
-unfolding index_pushed choose
-bounded k p q = rw (ne_eqb k 2 p, ne_eqb k 3 q)
-
-pub flagged : (n : ℕ) → 128 ≤ n → native_pushed n ≡ 2
-unfolding native_pushed choose
-flagged n h = rw (le-leb 128 n h)
-
-pub unflagged : (n : ℕ) → n < 128 → native_pushed n ≡ 1
-unfolding native_pushed choose
-unflagged n h = rw (lt-leb 128 n h)
-
-module _ (k index host : ℕ) where
-  pub trap_index : k ≡ index → trap_need k index host ≡ 5
-  unfolding trap_need choose
-  trap_index e = rw (eq-eqb k index e)
-
-  pub trap_host : (k ≡ index → ⊥) → k ≡ host → trap_need k index host ≡ 1
-  unfolding trap_need choose
-  trap_host n e = rw (ne_eqb k index n, eq-eqb k host e)
-
-  pub trap_other : (k ≡ index → ⊥) → (k ≡ host → ⊥) → trap_need k index host ≡ 0
-  unfolding trap_need choose
-  trap_other n m = rw (ne_eqb k index n, ne_eqb k host m)
 
 -- ── Codes in a range ──────────────────────────────────────────────────────────────────────
 
@@ -84,15 +31,6 @@ upto : (P : ℕ → Type 0) (lo n : ℕ) → Each P lo n → (k : ℕ) → lo �
 upto P lo zero h k l u = absurd (omega arith)
 upto P lo (suc n) h k l u =
     ⊎_elim (λ e. subst P e h.0) (λ (g : lo < k). upto P (suc lo) n h.1 k g (omega arith)) (eq-or-lt_of_le l)
-
-pub above1 : (k n : ℕ) → n ≤ k → (k ≡ n → ⊥) → n + 1 ≤ k
-above1 k n l a = omega arith
-
-pub above3 : (k n : ℕ) → n ≤ k → (k ≡ n → ⊥) → (k ≡ n + 1 → ⊥) → (k ≡ n + 2 → ⊥) → n + 3 ≤ k
-above3 k n l a b c = omega arith
-
-pub above4 : (k n : ℕ) → n ≤ k → (k ≡ n → ⊥) → (k ≡ n + 1 → ⊥) → (k ≡ n + 2 → ⊥) → (k ≡ n + 3 → ⊥) → n + 4 ≤ k
-above4 k n l a b c d = omega arith
 
 beyond : {A : Type 0} (xs : List A) (k : ℕ) → length xs ≤ k → get_elem? xs k ≡ none
 beyond [] k h = refl
@@ -170,7 +108,7 @@ module _ (i : Instr) (index host : ℕ) where
   unfolding instr instr_of ops row make_at need takes net pushes shaped_pushes effect shaped_need jump_need with_bounds
   branches l u = ranged 1 (negsuc 0) 65 2 (λ c p q. (refl, refl), (λ c p q. (refl, refl), tt)) l u
 
-  pub rest_known : 67 ≤ i.code → i.code < 75 → EffectIs i index host (one 0 (pos 0))
+  rest_known : 67 ≤ i.code → i.code < 75 → EffectIs i index host (one 0 (pos 0))
   unfolding instr instr_of ops row make_at need takes net pushes shaped_pushes effect shaped_need jump_need with_bounds
   rest_known l u = ranged 0 (pos 0) 67 8 (λ c p q. (refl, refl), (λ c p q. (refl, refl), (λ c p q. (refl, refl), (λ c p q. (refl, refl), (λ c p q. (refl, refl), (λ c p q. (refl, refl), (λ c p q. (refl, refl), (λ c p q. (refl, refl), tt)))))))) l u
 
@@ -259,3 +197,27 @@ module _ (i : Instr) (index host : ℕ) where
   trap e r =
       settle (trap_need i.a index host) trap_net 64
       (λ c p q. (trap_same c p q, ap (λ (m : ℕ). pos 0 -ℤ pos m) (trap_same c p q))) (sym e) r
+
+-- what `op_depth_effect` gives, code by code
+pub ruleset effects = (
+  pushes_one,
+  dup,
+  stores,
+  get_indexed,
+  set_indexed,
+  bounds_check,
+  index_flat,
+  index_other,
+  binary,
+  unary,
+  peeks,
+  call,
+  native_call,
+  new_composite,
+  checked,
+  checked_neg,
+  pop_n,
+  trap,
+  branches,
+  rest,
+)

@@ -2,24 +2,27 @@
 use mathlib.Core.Path.{◌≡◌, refl, sym, ap, ap₂, subst, ◌∙◌}
 use mathlib.Core.Bool.{Bool, true, false, ◌&&◌}
 use mathlib.Core.Option.{Option, none, some}
-use mathlib.Core.List.{List, [], ◌∷◌, ◌++◌}
+use mathlib.Core.List.{List, [], ◌∷◌, ◌++◌, reverse}
 use Prim.Native.Nat.{ℕ, zero, suc, ◌+◌, ◌-◌, ◌*◌, ◌/◌, ◌%◌, ◌^◌, ◌≤◌, ◌<◌, min}
 use native.Mathlib.Decide.{dec_lt}
 use native.Mathlib.Nat.{pow-succ', zero-div, div-div-eq-div-mul}
 use native.Mathlib.Numerals.{add-one}
 use native.Mathlib.Omega.{arith}
-use borrow.Author.Tests.{eqb-true, eqb-false, eq-eqb}
+use borrow.Author.Tests.{eq-eqb}
 use lib.Dec.{T, eqb, ltb, leb, leb→le, ltb→lt, eqb→eq}
 use lib.Ieee.Fits.{and_l, and_r}
 use lib.ListN.{length, get_or, take, drop, take-append-drop, length-take, length-drop, drop_of_length-le}
 use lib.Pow.{pow-add}
-use lib.Seq.{drop-cons, drop-drop, take_all, take-nil, get_or-take, get_or-drop}
+use Rattle.std.specs.List.{fold, slice_range}
+use Rattle.std.proofs.lemmas.List.{reverse-append, take_min}
+use Rattle.std.proofs.lemmas.List.Sums.{fold-append}
+use lib.Seq.{drop-cons, drop-drop, take_all, get_or-take, get_or-drop}
 use Rattle.definition.specs.Shapes.{same_places}
 use Rattle.definition.specs.Format.{Bytes, bytes}
 use Rattle.definition.specs.Ops.{ops, row}
 use Rattle.bytecode.specs.Tables.{all_below, at_each}
 use Rattle.bytecode.specs.Lists.{tabulate}
-use Rattle.bytecode.specs.Names.{names, name_at, lookup_from, lookup, little, AllBytes, Packs, place_of, text_place, index_of, placing, places}
+use Rattle.bytecode.specs.Names.{names, name_at, lookup_from, lookup, little, AllBytes, Packs, has_words, place_of, text_place, index_of, placing, places}
 use Rattle.bytecode.specs.declared.ops.Packed.{Packed}
 
 -- ── The same bytes ────────────────────────────────────────────────────────────────────────
@@ -144,34 +147,37 @@ module _ (i : ℕ) (h : i < 75) where
       ∙ get_or-drop (8 * (j / 8)) (name_at i) (j % 8) 0
       ∙ ap (λ (n : ℕ). get_or (name_at i) n 0) (let n : 8 * (j / 8) + j % 8 ≡ j = omega arith in n)
 
--- ── A packed text against a row ───────────────────────────────────────────────────────────
-
-module _ (i : ℕ) (h : i < 75) (p : Packed) (text : Bytes) (k : Packs text p) where
-  pub not_first : (little (take 8 (name_at i)) ≡ p.first → ⊥) → false ≡ same_places (name_at i) text
-  not_first n = same_no (name_at i) text (λ e. n (ap (λ (x : Bytes). little (take 8 x)) e ∙ sym k.first))
-
-  pub not_second : (little (take 8 (drop 8 (name_at i))) ≡ p.second → ⊥) → false ≡ same_places (name_at i) text
-  not_second n = same_no (name_at i) text (λ e. n (ap (λ (x : Bytes). little (take 8 (drop 8 x))) e ∙ sym k.second))
-
-  pub not_third : (little (take 8 (drop 16 (name_at i))) ≡ p.third → ⊥) → false ≡ same_places (name_at i) text
-  not_third n = same_no (name_at i) text (λ e. n (ap (λ (x : Bytes). little (take 8 (drop 16 x))) e ∙ sym k.third))
-
-  -- the words are the same, and the lengths decide
-  pub by_length : little (take 8 (name_at i)) ≡ p.first → little (take 8 (drop 8 (name_at i))) ≡ p.second → little (take 8 (drop 16 (name_at i))) ≡ p.third
-      → eqb (length (name_at i)) p.length ≡ same_places (name_at i) text
-  by_length a b c = go (eqb (length (name_at i)) p.length) refl
-    where
-      go : (t : Bool) → eqb (length (name_at i)) p.length ≡ t → t ≡ same_places (name_at i) text
-      go true e =
-          same_yes (name_at i) text
-          (words-one (name_at i) text (name_all i h) k.all (name_short i h) (eqb-true (length (name_at i)) p.length e ∙ k.count)
-          (a ∙ k.first) (b ∙ k.second) (c ∙ k.third))
-      go false e = same_no (name_at i) text (λ q. eqb-false (length (name_at i)) p.length e (ap length q ∙ sym k.count))
-
--- ── Places ────────────────────────────────────────────────────────────────────────────────
-
 true_false : true ≡ false → ⊥
 true_false e = subst T e tt
+
+-- ── A packed text against a row ───────────────────────────────────────────────────────────
+
+itself : (n : ℕ) → eqb n n ≡ true
+itself n = eq-eqb n n refl
+
+module _ (i : ℕ) (h : i < 75) (p : Packed) (text : Bytes) (k : Packs text p) where
+  -- the same words and the same length are the same bytes,
+  words_name : T (has_words i p) → name_at i ≡ text
+  words_name t =
+      let three = and_l _ (eqb (length (name_at i)) p.length) t in
+      let two = and_l _ (eqb (little (take 8 (drop 16 (name_at i)))) p.third) three in
+      words-one (name_at i) text (name_all i h) k.all (name_short i h) (eqb→eq _ _ (and_r _ (eqb (length (name_at i)) p.length) t) ∙ k.count)
+      (eqb→eq _ _ (and_l (eqb (little (take 8 (name_at i))) p.first) _ two) ∙ k.first)
+      (eqb→eq _ _ (and_r (eqb (little (take 8 (name_at i))) p.first) _ two) ∙ k.second)
+      (eqb→eq _ _ (and_r _ (eqb (little (take 8 (drop 16 (name_at i)))) p.third) three) ∙ k.third)
+
+  -- and the same bytes have them
+  name_words : name_at i ≡ text → has_words i p ≡ true
+  name_words e = rw (e, k.first, k.second, k.third, k.count) (simp itself)
+
+  pub words_same : has_words i p ≡ same_places (name_at i) text
+  words_same = go (has_words i p) refl
+    where
+      go : (b : Bool) → has_words i p ≡ b → b ≡ same_places (name_at i) text
+      go true e = same_yes (name_at i) text (words_name (subst T (sym e) tt))
+      go false e = same_no (name_at i) text (λ q. true_false (sym (name_words q) ∙ e))
+
+-- ── Places ────────────────────────────────────────────────────────────────────────────────
 
 right : ℕ → Bool
 right i = eqb (get_or places (text_place (name_at i)) 0) i
@@ -187,10 +193,6 @@ low k = ltb (get_or places k 0) 75
 all_low : T (all_below 256 low)
 unfolding all_below low places placing index_of tabulate text_place place_of little name_at names ops row bytes
 all_low = tt
-
-pub place_low : (k a b c : ℕ) → k ≡ place_of a b c → k < 256
-unfolding place_of
-place_low k a b c e = omega arith
 
 pub placed_low : (k : ℕ) → k < 256 → get_or places k 0 < 75
 unfolding low
@@ -286,38 +288,35 @@ little_below (suc n) (x ∷ xs) p h =
     let b : x < 256 = p.0 in
     rw (pow-succ' 256 n) (omega arith)
 
+-- a word that takes byte after byte from below, the last byte first
+abbrev pub packed : List ℕ → ℕ
+packed = fold (λ (w b : ℕ). w * 256 % 18446744073709551616 + b) 0
+
+packed-reverse : (bs : Bytes) → AllBytes bs → length bs ≤ 8 → packed (reverse bs) ≡ little bs
+unfolding little
+packed-reverse [] p h = refl
+packed-reverse (b ∷ bs) p h =
+    let r : packed (reverse bs) ≡ little bs = packed-reverse bs p.1 (omega arith) in
+    let l : little bs < 256 ^ 7 = little_below 7 bs p.1 (omega arith) in
+    ap packed (reverse-append (b ∷ []) bs)
+    ∙ fold-append (λ (w c : ℕ). w * 256 % 18446744073709551616 + c) 0 (reverse bs) (b ∷ [])
+    ∙ (rw r (omega arith))
+
 module _ (s : Bytes) (at : ℕ) where
-  pub rest_of : ℕ → Bytes
-  rest_of i = take (at + 8 - i) (drop i s)
+  abbrev pub end : ℕ
+  end = min (length s) (at + 8)
 
-  pub rest_none : (i : ℕ) → length s ≤ i → 0 ≡ little (rest_of i)
-  unfolding rest_of little
-  rest_none i h = rw (drop_of_length-le s {i = i} h, take-nil {A = ℕ} (at + 8 - i))
-
-  pub rest_full : 0 ≡ little (rest_of (at + 8))
-  unfolding rest_of little
-  rest_full = rw (let z : at + 8 - (at + 8) ≡ 0 = omega arith in z)
-
-  pub rest_start : (r : ℕ) → r ≡ min (at + 8) (length s) → 0 ≡ little (rest_of r)
-  rest_start r e = elim (dec_lt (length s) (at + 8)) [
-    | yes p ↦ rest_none r (omega arith)
-    | no q ↦ rest_full ∙ ap (λ (i : ℕ). little (rest_of i)) (let z : at + 8 ≡ r = omega arith in z)
+  eight_of : slice_range s (min at end) end ≡ take 8 (drop at s)
+  eight_of = elim (dec_lt at (length s)) [
+    | yes p ↦ (let a : min at end ≡ at = omega arith in
+        let n : end - at ≡ min 8 (length (drop at s)) = rw length-drop (omega arith) in
+        rw (a, n) (take_min 8 (drop at s)))
+    | no q ↦ (let a : min at end ≡ length s = omega arith in
+        let n : end - length s ≡ 0 = omega arith in
+        rw (a, n, drop_of_length-le s {i = at} (omega arith)))
   ]
 
-  pub rest_more : (i w b : ℕ) → at < i → i ≤ at + 8 → i ≤ length s → w ≡ little (rest_of i) → b ≡ get_or s (i - 1) 0
-      → w * 256 + b ≡ little (rest_of (i - 1))
-  unfolding rest_of little
-  rest_more i w b l u h e g =
-      let n : at + 8 - (i - 1) ≡ suc (at + 8 - i) = omega arith in
-      let j : suc (i - 1) ≡ i = omega arith in
-      rw (n, drop-cons s (i - 1) 0 (omega arith), j) (omega arith)
-
-  pub rest_all : (i : ℕ) → i ≡ at → little (rest_of i) ≡ little (take 8 (drop at s))
-  unfolding rest_of
-  rest_all i e = rw (e, (let z : at + 8 - at ≡ 8 = omega arith in z))
-
-  pub rest_small : (i : ℕ) → AllBytes s → at < i → little (rest_of i) < 72057594037927936
-  unfolding rest_of
-  rest_small i p l =
-      little_below 7 (take (at + 8 - i) (drop i s)) (all_take (at + 8 - i) (drop i s) (all_drop i s p))
-      (simp length-take (omega arith))
+  pub packed_eight : AllBytes s → packed (reverse (slice_range s (min at end) end)) ≡ little (take 8 (drop at s))
+  packed_eight p =
+      ap (λ (bs : Bytes). packed (reverse bs)) eight_of
+      ∙ packed-reverse (take 8 (drop at s)) (all_take 8 (drop at s) (all_drop at s p)) (simp length-take (omega arith))

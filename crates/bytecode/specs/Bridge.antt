@@ -17,7 +17,8 @@ use Rattle.definition.specs.Read.{Reader}
 use Rattle.bytecode.specs.Tables.{tables, cap, stride}
 use Rattle.bytecode.specs.Held.{Held, lists, held_count, cell_is, length-map, wire_word, slot_words, header_words, shared_words, private_words}
 use Rattle.bytecode.specs.Held.{one_word, native_words, sig_words, op_words, chunk_words, chunk_rows, header_rows}
-use Rattle.bytecode.specs.Lists.{limited, limited-same, tabulate, tabulate_list, All, all_at, map_at}
+use Rattle.std.proofs.lemmas.List.{get_or-map}
+use Rattle.bytecode.specs.Lists.{limited, limited-same, tabulate, tabulate_list, All, all_at}
 use Rattle.bytecode.specs.Meaning.{cell, count, table_header, slot_at, slot_of, shared_at, private_at, enum_at, word_wire, wire_of, native_at, params_at}
 use Rattle.bytecode.specs.Meaning.{sig_at, const_at, maxima_of, operands_of, op_of, op_at, locals_at, first_at, end_at, first_op, code_of}
 use Rattle.bytecode.specs.Meaning.{slots_of, shareds_of, privates_of, enums_of, natives_of, sigs_of, module_of, chunk_of, table_chunks}
@@ -122,7 +123,7 @@ module _ (t : List ℕ) (r : Reader) (h : Held t (lists r)) where
     word_of i j p q =
         cell_is t (lists r) k i j h l (omega (arith, ap length e, length-map words xs)) q
         ∙ ap (λ (rs : List (List ℕ)). get_or (get_or rs i []) j 0) e
-        ∙ ap (λ (ws : List ℕ). get_or ws j 0) (map_at words d [] xs i p)
+        ∙ ap (λ (ws : List ℕ). get_or ws j 0) (get_or-map words xs i d [] p)
 
     listed : (f : ℕ → A) → ((i : ℕ) → i < length xs → f i ≡ get_or xs i d) → tabulate 0 (count t k) f ≡ xs
     listed f g =
@@ -200,7 +201,7 @@ module _ (t : List ℕ) (r : Reader) (h : Held t (lists r)) where
         tabulate_list top g.params 3 (λ j. word_wire (cell t 6 i j))
         (λ j l.
         ap word_wire (e (3 + j) (omega (arith, f.few)) ∙ word_past j)
-        ∙ ap word_wire (map_at wire_word top 0 g.params j l)
+        ∙ ap word_wire (get_or-map wire_word g.params j top 0 l)
         ∙ wire_back (get_or g.params j top) (all_at WireFits top g.params f.params j l)) in
         rw (e 0 (omega arith), e 1 (omega arith), e 2 (omega arith), n, ps, wire_back g.ret f.ret, wire_back g.resume f.resume)
       where

@@ -1,32 +1,29 @@
--- Numbers that are cut to a maximum, and lists that are read off a function of a place.
-use Rattle.std.specs.Prelude.{◌≡◌, refl, Bool, true, false, List, [], ◌∷◌, map, ℕ, zero, suc, ◌+◌, ◌≤◌, ◌<◌, leb, length, get_or}
-use Rattle.std.proofs.Common.{sym, ap, ◌∙◌, arith, add-zero, add-suc, suc-add, le-leb, leb-true}
-use Rattle.std.proofs.Math.Option.{none, some}
-use Rattle.std.proofs.lemmas.Bool.{lt-leb}
+-- Numbers that are cut to a maximum, lists that are read off a function of a place, and the code's options.
+use Rattle.std.specs.Prelude.{◌≡◌, refl, List, [], ◌∷◌, map, ℕ, zero, suc, ◌+◌, ◌≤◌, ◌<◌, min, length, get_or, Option as CodeOption, Some, None}
+use Rattle.std.proofs.Common.{sym, ap, ◌∙◌, arith, add-zero, add-suc, suc-add}
+use Rattle.std.proofs.Math.Option.{Option, none, some}
 use Rattle.std.proofs.Math.ListN.{get_elem?}
-use Rattle.definition.specs.Basics.{choose}
+
+-- ── Options ───────────────────────────────────────────────────────────────────────────────
+
+-- an Option of the code, as the definitions have options
+abbrev pub maybe : {A : Type 0} → CodeOption A → Option A
+maybe None = none
+maybe (Some x) = some x
 
 -- ── Numbers up to a maximum ───────────────────────────────────────────────────────────────
 
-unfoldable pub limited : ℕ → ℕ → ℕ
-limited m x = choose (leb x m) x m
+abbrev pub limited : ℕ → ℕ → ℕ
+limited m x = min x m
 
 pub limited-same : (m x : ℕ) → x ≤ m → limited m x ≡ x
-unfolding limited choose
-limited-same m x h = rw (le-leb x m h)
+limited-same m x h = omega arith
 
 pub limited-over : (m x : ℕ) → m < x → limited m x ≡ m
-unfolding limited choose
-limited-over m x h = rw (lt-leb x m h)
-
-chosen : (m x : ℕ) (b : Bool) → leb x m ≡ b → choose b x m ≤ m
-unfolding choose
-chosen m x true e = omega (arith, leb-true x m e)
-chosen m x false e = omega arith
+limited-over m x h = omega arith
 
 pub limited_le : (m x : ℕ) → limited m x ≤ m
-unfolding limited
-limited_le m x = chosen m x (leb x m) refl
+limited_le m x = omega arith
 
 -- ── Lists ─────────────────────────────────────────────────────────────────────────────────
 
@@ -91,8 +88,3 @@ pub all_at : {A : Type 0} (P : A → Type 0) (d : A) (xs : List A) → All P xs 
 all_at P d [] ps i h = absurd (omega arith)
 all_at P d (x ∷ xs) ps zero h = ps.0
 all_at P d (x ∷ xs) ps (suc i) h = all_at P d xs ps.1 i (omega arith)
-
-pub map_at : {A B : Type 0} (f : A → B) (d : A) (e : B) (xs : List A) (i : ℕ) → i < length xs → get_or (map f xs) i e ≡ f (get_or xs i d)
-map_at f d e [] i h = absurd (omega arith)
-map_at f d e (x ∷ xs) zero h = refl
-map_at f d e (x ∷ xs) (suc i) h = map_at f d e xs i (omega arith)

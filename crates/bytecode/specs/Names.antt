@@ -1,5 +1,5 @@
 -- The op names: as bytes, packed into words, and looked up.
-use Rattle.std.specs.Prelude.{◌≡◌, true, false, List, [], ◌∷◌, ◌++◌, map, ℕ, suc, ◌+◌, ◌*◌, ◌%◌, ◌<◌, length, get_or, take, drop, eqb, ℤ, pos, ◌-ℤ◌, ◌+ℤ◌}
+use Rattle.std.specs.Prelude.{◌≡◌, Bool, true, false, ◌&&◌, List, [], ◌∷◌, ◌++◌, map, ℕ, suc, ◌+◌, ◌*◌, ◌%◌, ◌<◌, length, get_or, take, drop, eqb, ℤ, pos, ◌-ℤ◌, ◌+ℤ◌}
 use Rattle.std.proofs.Math.Option.{Option, none, some}
 use Rattle.bytecode.specs.Lists.{tabulate}
 use Rattle.std.proofs.Math.IntN.{ -ℤ-+ℤ_cancel}
@@ -8,8 +8,6 @@ use Rattle.definition.specs.Format.{Bytes, bytes}
 use Rattle.definition.specs.Instructions.{Instr, plain, shaped, jump, PopN, SetLocal, Call, NewFlat, NewBoxed, GetFlat, GetBoxed, GetIndex}
 use Rattle.definition.specs.Ops.{Row as OpRow, ops, make_at}
 use Rattle.definition.specs.Effects.{effect}
-use Rattle.bytecode.specs.declared.ops.Found.{Found}
-use Rattle.bytecode.specs.declared.ops.Found.TheVariants.{Row, Nothing}
 use Rattle.bytecode.specs.declared.ops.Packed.{Packed}
 
 abbrev pub name_bytes : OpRow → Bytes
@@ -29,10 +27,6 @@ lookup_from n (b ∷ bs) text = elim (same_places b text) [ true ↦ some n | fa
 unfoldable pub lookup : Bytes → Option ℕ
 lookup text = lookup_from 0 names text
 
-unfoldable pub row_number : Found → Option ℕ
-row_number (Row i) = some i
-row_number Nothing = none
-
 -- ── Packed ────────────────────────────────────────────────────────────────────────────────
 
 -- the number that bytes write, the first lowest
@@ -51,6 +45,14 @@ pub record Packs (text : Bytes) (p : Packed) : Type 0 where
   pub second : p.second ≡ little (take 8 (drop 8 text))
   pub third : p.third ≡ little (take 8 (drop 16 text))
   pub count : p.length ≡ length text
+
+-- whether the name of a row has the words and the length of a packed text
+abbrev pub has_words : ℕ → Packed → Bool
+has_words i p =
+    eqb (little (take 8 (name_at i))) p.first
+    && eqb (little (take 8 (drop 8 (name_at i)))) p.second
+    && eqb (little (take 8 (drop 16 (name_at i)))) p.third
+    && eqb (length (name_at i)) p.length
 
 -- Where a name has its row: a number below 256 from its words, by which no two names are alike.
 unfoldable pub place_of : ℕ → ℕ → ℕ → ℕ

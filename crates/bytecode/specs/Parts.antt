@@ -1,6 +1,6 @@
 -- What the code's own types mean.
 use Rattle.std.specs.Prelude.{◌≡◌, true, false, ◌||◌, List, [], ◌∷◌, ℕ, ◌+◌, ◌-◌, ◌≤◌, ◌<◌, leb, ltb, eqb, get_or}
-use Rattle.std.proofs.Math.Option.{Option, none, some}
+use Rattle.std.proofs.Math.Option.{none}
 use Rattle.definition.specs.Basics.{choose}
 use Rattle.definition.specs.Shapes.{Shape, unknown, scalar, composite, from_wire}
 use Rattle.definition.specs.Instructions.{Instr as AnyInstr, Chunk}
@@ -8,11 +8,10 @@ use Rattle.definition.specs.Effects.{need, net}
 use Rattle.definition.specs.Ops.{instr}
 use Rattle.definition.specs.Module.{Shared, Private, Header as AnyHeader, address_bytes}
 use Rattle.value_layout.specs.declared.Widths.{Widths}
-use Rattle.bytecode.specs.Tables.{cap}
+use Rattle.bytecode.specs.Tables.{stride, cap, base}
 use Rattle.bytecode.specs.Meaning.{cell, count, known_of, first_at, end_at, table_instr_at, op_at, maxima_of}
+use Rattle.bytecode.specs.declared.Layout.{Layout}
 use Rattle.bytecode.specs.declared.Span.{Span}
-use Rattle.bytecode.specs.declared.Constant.{Constant}
-use Rattle.bytecode.specs.declared.Constant.TheVariants.{Kind, Missing}
 use Rattle.bytecode.specs.declared.Header.{Header}
 use Rattle.bytecode.specs.declared.SharedEntry.{SharedEntry}
 use Rattle.bytecode.specs.declared.PrivateEntry.{PrivateEntry}
@@ -20,6 +19,12 @@ use Rattle.bytecode.specs.declared.WireShape.{WireShape}
 use Rattle.bytecode.specs.declared.WireShape.TheVariants.{Unknown, Scalar, Composite}
 use Rattle.bytecode.specs.declared.Instr.{Instr}
 use Rattle.bytecode.specs.declared.Effect.{Effect}
+
+-- where table k stands
+pub record LayoutIs (k : ℕ) (l : Layout) : Type 0 where
+  pub stride_is : l.stride ≡ stride k
+  pub cap_is : l.cap ≡ cap k
+  pub base_is : l.base ≡ base k
 
 unfoldable pub header_of : Header → AnyHeader
 header_of h =
@@ -51,19 +56,16 @@ declared_shape Unknown = unknown
 declared_shape (Scalar k) = scalar k
 declared_shape (Composite k n) = composite k n none
 
--- Shape j of signature k: 1 is RET, 2 RESUME, and the parameters follow.
-unfoldable pub sig_shape : List ℕ → ℕ → ℕ → Shape
-sig_shape t k j = elim (ltb k (count t 6)) [ true ↦ from_wire (known_of t (cell t 6 k j)) | false ↦ unknown ]
+-- The shape that word j of row k of a table says. A native's row has one, as word 1; a signature's has RET as word 1, RESUME as word 2, and the
+-- parameters follow.
+unfoldable pub shape_at : List ℕ → ℕ → ℕ → ℕ → Shape
+shape_at t table k j = elim (ltb k (count t table)) [ true ↦ from_wire (known_of t (cell t table k j)) | false ↦ unknown ]
 
 -- The rows of a table that are chunk k's.
 pub record SpanIs (t : List ℕ) (table j k : ℕ) (r : Span) : Type 0 where
   pub first_is : r.first ≡ first_at t table j k
   pub count_is : r.count ≡ end_at t table j k - first_at t table j k
   pub within : r.first + r.count ≤ cap table
-
-unfoldable pub constant_of : Constant → Option ℕ
-constant_of (Kind k) = some k
-constant_of Missing = none
 
 -- The instruction of a row and three operands; a row that has fewer does not read the rest.
 unfoldable pub any_instr_of : Instr → AnyInstr

@@ -1,4 +1,5 @@
-// The code of each op: the number of its row in the table of names. A name with variants has a code for each.
+// The code of each op: the number of its row in the table of names. A name with variants has a code for each. They are numbers and no enum, since a
+// rule of the project asks for one decision over codes and ranges of codes, giving need and net, and for a constant table of packed names.
 pub const CONST: u8 = 0;
 
 pub const GET_LOCAL: u8 = 1;

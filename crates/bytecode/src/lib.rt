@@ -1,4 +1,4 @@
-// The tables of a module, in one lent slice of words: word k counts the rows of table k, whose rows stand from base_of(k) on.
+// The tables of a module, in one lent slice of words: word k counts the rows of table k, whose rows stand from the table's base on.
 #![tactic(auto)]
 
 ghost use Rattle.std.specs.Prelude.{◌≡◌, ◌+◌, ◌*◌, ◌-◌, ◌%◌, ◌<◌, ◌≤◌, min, map, length, get_or, pos, ◌-ℤ◌};
@@ -8,21 +8,22 @@ ghost use Rattle.definition.specs.Basics.{is_member, saturating_add};
 ghost use Rattle.definition.specs.Shapes.{from_wire, known_wire, unknown};
 ghost use Rattle.definition.specs.Module.{no_sig, known_const};
 ghost use Rattle.definition.specs.Effects.{shape_of, returned, returned_native};
-ghost use Rattle.bytecode.specs.Tables.{tables, stride, cap, base, size, row_at, Appended};
-ghost use Rattle.bytecode.specs.Lists.{limited};
+ghost use Rattle.bytecode.specs.Tables.{tables, stride, cap, size, row_at, Appended};
+ghost use Rattle.bytecode.specs.Lists.{maybe};
 ghost use Rattle.bytecode.specs.Meaning.{count as count_of, table_header, slot_at, slot_of, shared_at, private_at, enum_at, word_wire, locals_at, first_at, end_at, known_natives, known_sigs, chunk_of, enum_sizes_of};
-ghost use Rattle.bytecode.specs.Parts.{header_of, WidthsOf, shared_of, private_of, declared_shape, sig_shape, SpanIs, constant_of, InstrIs, index_pushed, native_pushed, trap_need, EffectIs};
+ghost use Rattle.bytecode.specs.Parts.{header_of, WidthsOf, shared_of, private_of, declared_shape, shape_at, LayoutIs, SpanIs, InstrIs, index_pushed, native_pushed, trap_need, EffectIs};
 
 use value_layout::{Widths, scalar};
 
 pub mod code;
 pub mod ops;
 
+// The words of all tables, and the most words of a row.
 pub const SIZE: usize = 22232;
 
 pub const WORDS: usize = 19;
 
-// The tables, in the order in which a listing has their lines.
+// The tables, in the order in which a listing has their lines. They are numbers, since word k of what the caller in C lends counts table k.
 pub const HEADER: usize = 0;
 
 pub const SLOTS: usize = 1;
@@ -67,96 +68,107 @@ pub const FIRST_CONSTANT: usize = 2;
 
 pub const FIRST_CODE: usize = 3;
 
-// Where the rows of the instructions begin.
-const FIRST_INSTRUCTION: usize = 5848;
+// The code of the last op: a number past it counts as it.
+const LAST_CODE: u64 = code::RETURN as u64;
 
-// The largest number of so many bits.
-const MOST_16: u16 = 65535;
+// The largest number of so many bits, as a word.
+const MOST_8: u64 = u8::MAX as u64;
 
-const MOST_32: u32 = 4294967295;
+const MOST_16: u64 = u16::MAX as u64;
 
-// A table's layout is decided by a `match`, which costs one load: a constant array would be made anew at each call.
-fn stride_of(k: usize) -> usize
-    requires { k < tables }
-    ensures { result ≡ stride k }
-{
-    match k {
-        HEADER => 8,
-        SLOTS => 1,
-        SHARED => 4,
-        PRIVATE => 3,
-        ENUMS => 2,
-        NATIVES => 2,
-        SIGNATURES => 19,
-        CHUNKS => 4,
-        CONSTANTS => 2,
-        _ => 4,
-    }
+const MOST_32: u64 = u32::MAX as u64;
+
+// Where a table stands: how many words a row has, how many rows there may be, and where the first is.
+#[derive(Clone, Copy)]
+struct Layout {
+    stride: usize,
+    cap: u64,
+    base: usize,
 }
 
-fn base_of(k: usize) -> usize
+// In the order of the numbers above. A static is read where it stands; a constant array would be made anew at each call.
+static LAYOUTS: [Layout; TABLES] = [
+    Layout {
+        stride: 8,
+        cap: 1,
+        base: 16,
+    },
+    Layout {
+        stride: 1,
+        cap: 256,
+        base: 24,
+    },
+    Layout {
+        stride: 4,
+        cap: 256,
+        base: 280,
+    },
+    Layout {
+        stride: 3,
+        cap: 256,
+        base: 1304,
+    },
+    Layout {
+        stride: 2,
+        cap: 64,
+        base: 2072,
+    },
+    Layout {
+        stride: 2,
+        cap: 64,
+        base: 2200,
+    },
+    Layout {
+        stride: 19,
+        cap: 64,
+        base: 2328,
+    },
+    Layout {
+        stride: 4,
+        cap: 64,
+        base: 3544,
+    },
+    Layout {
+        stride: 2,
+        cap: 1024,
+        base: 3800,
+    },
+    Layout {
+        stride: 4,
+        cap: 4096,
+        base: 5848,
+    },
+];
+
+fn layout_of(k: usize) -> Layout
     requires { k < tables }
-    ensures { result ≡ base k }
+    ensures { LayoutIs k result }
 {
-    match k {
-        HEADER => 16,
-        SLOTS => 24,
-        SHARED => 280,
-        PRIVATE => 1304,
-        ENUMS => 2072,
-        NATIVES => 2200,
-        SIGNATURES => 2328,
-        CHUNKS => 3544,
-        CONSTANTS => 3800,
-        _ => 5848,
-    }
+    LAYOUTS[k]
 }
 
 pub fn cap_of(k: usize) -> u64
     requires { k < tables }
     ensures { result ≡ cap k }
 {
-    match k {
-        HEADER => 1,
-        SLOTS => 256,
-        SHARED => 256,
-        PRIVATE => 256,
-        ENUMS => 64,
-        NATIVES => 64,
-        SIGNATURES => 64,
-        CHUNKS => 64,
-        CONSTANTS => 1024,
-        _ => 4096,
-    }
-}
-
-pub fn least(a: usize, b: usize) -> usize
-    ensures { result ≡ min a b }
-{
-    if a < b { a } else { b }
-}
-
-fn index(x: u64) -> usize
-    ensures { result ≡ x }
-{
-    x as usize
+    layout_of(k).cap
 }
 
 // A word, or 0 past the end.
 pub fn word(t: &[u64], i: usize) -> u64
     ensures { result ≡ get_or t.now i 0 }
 {
-    if i < t.len() { t[i] } else { 0 }
+    t.get(i).copied().unwrap_or(0)
 }
 
 // Where row i of table k stands.
+#[tactic(auto, using(crate::specs::Tables::row_in, crate::specs::Tables::region_in))]
 pub fn row_place(k: usize, i: usize) -> usize
     requires { (k < tables) × (i < cap k) }
     ensures { (result ≡ row_at k i) × (result + stride k ≤ size) }
 {
-    let s = stride_of(k);
-    let b = base_of(k);
-    b + i * s
+    let Layout { stride, base, .. } = layout_of(k);
+    base + i * stride
 }
 
 // Word j of row i of table k.
@@ -168,53 +180,25 @@ pub fn cell(t: &[u64], k: usize, i: usize, j: usize) -> u64
 }
 
 // One more row of table k.
-pub fn append(t: &mut [u64], k: usize, row: &[u64; 19])
+#[tactic(auto, using(crate::specs::Tables::stride_small, crate::specs::Tables::cap_small))]
+pub fn append(t: &mut [u64], k: usize, row: &[u64; WORDS])
     requires { (k < tables) × (length t.old ≡ size) × (get_or t.old k 0 < cap k) }
     ensures { Appended t.old k row.now t.new }
 {
-    let n = t[k];
-    let s = stride_of(k);
-    let b = base_of(k);
-    let at = b + index(n) * s;
-    let mut j = 0;
-    while j < s {
-        t[at + j] = row[j];
-        j += 1;
-    }
-    t[k] = n + 1;
+    let count = t[k];
+    let at = row_place(k, count as usize);
+    let stride = layout_of(k).stride;
+    t[at..at + stride].copy_from_slice(&row[..stride]);
+    t[k] = count + 1;
 }
 
-// A word of a table may be any number: what is read off it is cut to the largest number that a listing may say there.
-fn limited8(x: u64, m: u8) -> u8
-    ensures { result ≡ limited m x }
-{
-    if x <= (m as u64) { x as u8 } else { m }
-}
-
-fn limited16(x: u64, m: u16) -> u16
-    ensures { result ≡ limited m x }
-{
-    if x <= (m as u64) { x as u16 } else { m }
-}
-
-fn limited32(x: u64, m: u32) -> u32
-    ensures { result ≡ limited m x }
-{
-    if x <= (m as u64) { x as u32 } else { m }
-}
-
-fn limited64(x: u64, m: u64) -> usize
-    ensures { result ≡ limited m x }
-{
-    if x <= m { x as usize } else { m as usize }
-}
-
-// The rows of table k.
+// The rows of table k. A word of a table may be any number: here and below it is cut to the largest number that a listing may say there.
+#[tactic(auto, unfolding(crate::specs::Meaning::count))]
 pub fn count(t: &[u64], k: usize) -> usize
     requires { k < tables }
     ensures { result ≡ count_of t.now k }
 {
-    limited64(word(t, k), cap_of(k))
+    word(t, k).min(cap_of(k)) as usize
 }
 
 #[derive(Clone, Copy)]
@@ -228,50 +212,50 @@ pub struct Header {
     pub host_trap: u16,
 }
 
+#[tactic(auto, unfolding(crate::specs::Meaning::table_header, crate::specs::Parts::header_of, crate::specs::Tables::base, crate::specs::Tables::stride))]
 pub fn header_at(t: &[u64]) -> Header
     ensures { header_of result ≡ table_header t.now }
 {
-    let word_bytes = limited8(word(t, WORD_BYTES), 8);
-    let float_bytes = limited8(word(t, FLOAT_BYTES), 8);
-    let address_log = limited8(word(t, ADDRESS_LOG), 6);
-    let shared_bytes = limited32(word(t, SHARED_BYTES), MOST_32);
-    let pool_bytes = limited32(word(t, POOL_BYTES), MOST_32);
-    let index_trap = limited16(word(t, INDEX_TRAP), MOST_16);
-    let host_trap = limited16(word(t, HOST_TRAP), MOST_16);
     Header {
-        word: word_bytes,
-        float: float_bytes,
-        address_log: address_log,
-        shared_bytes: shared_bytes,
-        pool_bytes: pool_bytes,
-        index_trap: index_trap,
-        host_trap: host_trap,
+        word: word(t, WORD_BYTES).min(8) as u8,
+        float: word(t, FLOAT_BYTES).min(8) as u8,
+        address_log: word(t, ADDRESS_LOG).min(6) as u8,
+        shared_bytes: word(t, SHARED_BYTES).min(MOST_32) as u32,
+        pool_bytes: word(t, POOL_BYTES).min(MOST_32) as u32,
+        index_trap: word(t, INDEX_TRAP).min(MOST_16) as u16,
+        host_trap: word(t, HOST_TRAP).min(MOST_16) as u16,
     }
 }
 
 // Bytes of a word, a float and an address of the module.
+#[tactic(auto, using(crate::proofs::Laws::log_low, crate::proofs::Laws::widths_of))]
 pub fn widths(t: &[u64]) -> Widths
     ensures { WidthsOf (table_header t.now) result }
 {
-    let h = header_at(t);
-    let address = value_layout::address_bytes(h.address_log);
-    let word_bytes = h.word;
-    let float_bytes = h.float;
+    let Header {
+        word,
+        float,
+        address_log,
+        ..
+    } = header_at(t);
+    let address = value_layout::address_bytes(address_log);
     Widths {
-        word: word_bytes,
-        float: float_bytes,
-        address: address,
+        word,
+        float,
+        address,
     }
 }
 
 // Bytes of a float alone; 0 where there are none.
+#[tactic(auto, unfolding(crate::specs::Meaning::table_header, crate::specs::Tables::base, crate::specs::Tables::stride))]
 pub fn float_of(t: &[u64]) -> u8
     ensures { result ≡ (table_header t.now).float }
 {
-    limited8(word(t, FLOAT_BYTES), 8)
+    word(t, FLOAT_BYTES).min(8) as u8
 }
 
 // Whether slot i is shared; else it is private.
+#[tactic(auto, unfolding(crate::specs::Tables::cap, crate::specs::Meaning::slot_at))]
 pub fn slot_shared(t: &[u64], i: usize) -> bool
     requires { i < 256 }
     ensures { slot_of result ≡ slot_at t.now i }
@@ -286,17 +270,15 @@ pub struct SharedEntry {
     pub len: u16,
 }
 
+#[tactic(auto, unfolding(crate::specs::Tables::cap, crate::specs::Meaning::shared_at, crate::specs::Parts::shared_of))]
 pub fn shared_at(t: &[u64], i: usize) -> SharedEntry
     requires { i < 256 }
     ensures { shared_of result ≡ shared_at t.now i }
 {
-    let offset = limited32(cell(t, SHARED, i, 1), MOST_32);
-    let kind = limited8(cell(t, SHARED, i, 2), 255);
-    let len = limited16(cell(t, SHARED, i, 3), MOST_16);
     SharedEntry {
-        offset: offset,
-        kind: kind,
-        len: len,
+        offset: cell(t, SHARED, i, 1).min(MOST_32) as u32,
+        kind: cell(t, SHARED, i, 2).min(MOST_8) as u8,
+        len: cell(t, SHARED, i, 3).min(MOST_16) as u16,
     }
 }
 
@@ -306,24 +288,24 @@ pub struct PrivateEntry {
     pub offset: u32,
 }
 
+#[tactic(auto, unfolding(crate::specs::Tables::cap, crate::specs::Meaning::private_at, crate::specs::Parts::private_of))]
 pub fn private_at(t: &[u64], i: usize) -> PrivateEntry
     requires { i < 256 }
     ensures { private_of result ≡ private_at t.now i }
 {
-    let slot = limited16(cell(t, PRIVATE, i, 1), MOST_16);
-    let offset = limited32(cell(t, PRIVATE, i, 2), MOST_32);
     PrivateEntry {
-        slot: slot,
-        offset: offset,
+        slot: cell(t, PRIVATE, i, 1).min(MOST_16) as u16,
+        offset: cell(t, PRIVATE, i, 2).min(MOST_32) as u32,
     }
 }
 
 // The smallest payload of enum i.
+#[tactic(auto, unfolding(crate::specs::Tables::cap, crate::specs::Meaning::enum_at))]
 pub fn enum_min(t: &[u64], i: usize) -> u32
     requires { i < 64 }
     ensures { result ≡ enum_at t.now i }
 {
-    limited32(cell(t, ENUMS, i, 1), MOST_32)
+    cell(t, ENUMS, i, 1).min(MOST_32) as u32
 }
 
 // A declared shape as the walk takes it: a tag that is not known gives unknown.
@@ -335,115 +317,98 @@ pub enum WireShape {
 }
 
 // The shape of a wire word: 2 bits say which, then 8 bits of K, then SIZE. A scalar of a kind that the module lacks is unknown.
+#[tactic(auto, using(crate::proofs::Laws::word_shapes), unfolding(crate::specs::Parts::declared_shape))]
 fn shape_of_word(float: u8, w: u64) -> WireShape
     ensures { declared_shape result ≡ from_wire (known_wire float (word_wire w)) }
 {
-    let tag = w % 4;
-    let k = (w / 4 % 256) as u8;
-    if tag == 1 {
-        if value_layout::is_lacking(float, k) {
-            return WireShape::Unknown;
-        }
-        if value_layout::is_scalar_tag(k) {
-            return WireShape::Scalar(k);
-        }
-        return WireShape::Unknown;
+    let kind = (w / 4 % 256) as u8;
+    match w % 4 {
+        1 if !value_layout::is_lacking(float, kind) && value_layout::is_scalar_tag(kind) =>
+            WireShape::Scalar(kind),
+        2 if value_layout::is_composite_tag(kind) => WireShape::Composite(
+            kind,
+            (w / 1024).min(MOST_32) as u32,
+        ),
+        _ => WireShape::Unknown,
     }
-    if tag == 2 {
-        if value_layout::is_composite_tag(k) {
-            let size = limited32(w / 1024, MOST_32);
-            return WireShape::Composite(k, size);
-        }
+}
+
+// The shape that word j of row k of a table says; unknown where there is no such row.
+#[tactic(auto, using(crate::specs::Meaning::count_low, crate::proofs::Laws::shape_out), unfolding(crate::specs::Parts::declared_shape))]
+fn shape_at(t: &[u64], table: usize, k: usize, j: usize) -> WireShape
+    requires { (table < tables) × (j < 19) }
+    ensures { declared_shape result ≡ shape_at t.now table k j }
+{
+    if k < count(t, table) {
+        shape_of_word(float_of(t), cell(t, table, k, j))
+    } else {
+        WireShape::Unknown
     }
-    WireShape::Unknown
 }
 
 // What native k is declared to return; unknown where there is none.
+#[tactic(auto, using(crate::proofs::Laws::native_is))]
 pub fn native_shape(t: &[u64], k: usize) -> WireShape
     ensures { declared_shape result ≡ shape_of (returned_native (get_elem? (known_natives t.now) k)) }
 {
-    if k < count(t, NATIVES) {
-        return shape_of_word(float_of(t), cell(t, NATIVES, k, 1));
-    }
-    WireShape::Unknown
+    shape_at(t, NATIVES, k, 1)
 }
 
-// Shape j of signature k: 1 is what it returns, 2 what it resumes with; unknown where there is no such signature.
-fn sig_shape(t: &[u64], k: usize, j: usize) -> WireShape
-    requires { j < 19 }
-    ensures { declared_shape result ≡ sig_shape t.now k j }
-{
-    if k < count(t, SIGNATURES) {
-        return shape_of_word(float_of(t), cell(t, SIGNATURES, k, j));
-    }
-    WireShape::Unknown
-}
-
+// What signature k returns; unknown where there is no such signature.
+#[tactic(auto, using(crate::proofs::Laws::return_is))]
 pub fn sig_return(t: &[u64], k: usize) -> WireShape
     ensures { declared_shape result ≡ shape_of (returned (get_elem? (known_sigs t.now) k)) }
 {
-    sig_shape(t, k, 1)
+    shape_at(t, SIGNATURES, k, 1)
 }
 
+// And what it resumes with.
+#[tactic(auto, using(crate::proofs::Laws::resume_is))]
 pub fn sig_resume(t: &[u64], k: usize) -> WireShape
     ensures { declared_shape result ≡ from_wire (get_or (known_sigs t.now) k no_sig).resume }
 {
-    sig_shape(t, k, 2)
+    shape_at(t, SIGNATURES, k, 2)
 }
 
 // The number of parameters of signature k; 0 where there is no such signature.
+#[tactic(auto, using(crate::specs::Meaning::count_low, crate::proofs::Laws::params_in, crate::proofs::Laws::params_out), unfolding(crate::specs::Tables::cap, crate::specs::Meaning::params_at))]
 pub fn sig_params(t: &[u64], k: usize) -> usize
     ensures { (result ≡ length (get_or (known_sigs t.now) k no_sig).params) × (result ≤ 16) }
 {
     if k < count(t, SIGNATURES) {
-        let n = cell(t, SIGNATURES, k, 0);
-        if n < 2 {
-            return 0;
-        }
-        return limited64(n - 2, 16);
+        cell(t, SIGNATURES, k, 0).saturating_sub(2).min(16) as usize
+    } else {
+        0
     }
-    0
 }
 
 // Parameter j of signature k; unknown where there is none.
+#[tactic(auto, using(crate::proofs::Laws::param_is, crate::proofs::Laws::param_none), unfolding(crate::specs::Parts::declared_shape))]
 pub fn sig_param(t: &[u64], k: usize, j: usize) -> WireShape
     ensures { declared_shape result ≡ get_or (map from_wire (get_or (known_sigs t.now) k no_sig).params) j unknown }
 {
     if j < sig_params(t, k) {
-        return sig_shape(t, k, j + 3);
+        shape_at(t, SIGNATURES, k, j + 3)
+    } else {
+        WireShape::Unknown
     }
-    WireShape::Unknown
-}
-
-fn enum_size(w: u8, m: u32) -> u32
-    ensures { result ≡ saturating_add w m }
-{
-    limited32((w as u64) + (m as u64), MOST_32)
 }
 
 // Whether a body of s bytes is an enum's: W + MIN of one.
 pub fn has_enum_size(t: &[u64], s: u32) -> bool
     ensures { result ≡ is_member s (enum_sizes_of t.now) }
 {
-    let n = count(t, ENUMS);
-    let w = limited8(word(t, WORD_BYTES), 8);
-    let mut i = 0;
-    while i < n {
-        let m = enum_min(t, i);
-        if s == enum_size(w, m) {
-            return true;
-        }
-        i += 1;
-    }
-    false
+    let word = word(t, WORD_BYTES).min(8) as u32;
+    (0..count(t, ENUMS)).any(|i| s == enum_min(t, i).saturating_add(word))
 }
 
 // LOCALS of chunk k.
+#[tactic(auto, unfolding(crate::specs::Tables::cap, crate::specs::Meaning::locals_at))]
 pub fn locals(t: &[u64], k: usize) -> usize
     requires { k < 64 }
     ensures { result ≡ locals_at t.now k }
 {
-    limited64(cell(t, CHUNKS, k, LOCALS), 32)
+    cell(t, CHUNKS, k, LOCALS).min(32) as usize
 }
 
 // A stretch of a table: its first row, and how many rows.
@@ -453,48 +418,47 @@ pub struct Span {
     pub count: usize,
 }
 
-fn wide(x: usize) -> u64
-    ensures { result ≡ x }
-{
-    x as u64
+// A table whose rows are the chunks', one chunk's after another's, and the word of a chunk's row that says where they begin.
+#[derive(Clone, Copy)]
+struct Part {
+    table: usize,
+    word: usize,
+    ghost is_table: { table < 10 },
+    ghost in_row: { word < 19 },
 }
 
-// Where the rows of chunk k begin in a table: word j of the chunk's row.
-fn first_at(t: &[u64], table: usize, j: usize, k: usize) -> usize
-    requires { (k < 64) × (table < tables) × (j < 19) }
-    ensures { result ≡ first_at t.now table j k }
+// Where the rows of chunk k begin in a table.
+#[tactic(auto, unfolding(crate::specs::Tables::cap, crate::specs::Meaning::first_at))]
+fn first_at(t: &[u64], part: Part, k: usize) -> usize
+    requires { k < 64 }
+    ensures { result ≡ first_at t.now part.table part.word k }
 {
-    let n = count(t, table);
-    limited64(cell(t, CHUNKS, k, j), wide(n))
+    cell(t, CHUNKS, k, part.word).min(count(t, part.table) as u64) as usize
 }
 
 // They end where those of the next chunk begin, and those of the last chunk where the table ends.
-fn end_at(t: &[u64], table: usize, j: usize, k: usize) -> usize
-    requires { (k < 64) × (table < tables) × (j < 19) }
-    ensures { result ≡ end_at t.now table j k }
+#[tactic(auto, using(crate::specs::Meaning::count_low, crate::proofs::Laws::end_next, crate::proofs::Laws::end_last), unfolding(crate::specs::Tables::cap))]
+fn end_at(t: &[u64], part: Part, k: usize) -> usize
+    requires { k < 64 }
+    ensures { result ≡ end_at t.now part.table part.word k }
 {
     let next = k + 1;
     if next < count(t, CHUNKS) {
-        return first_at(t, table, j, next);
+        first_at(t, part, next)
+    } else {
+        count(t, part.table)
     }
-    count(t, table)
 }
 
-fn span_of(t: &[u64], table: usize, j: usize, k: usize) -> Span
-    requires { (k < 64) × (table < tables) × (j < 19) }
-    ensures { SpanIs t.now table j k result }
+#[tactic(auto, using(crate::specs::Meaning::first_low, crate::specs::Meaning::end_low, crate::specs::Meaning::count_low))]
+fn span_of(t: &[u64], part: Part, k: usize) -> Span
+    requires { k < 64 }
+    ensures { SpanIs t.now part.table part.word k result }
 {
-    let first = first_at(t, table, j, k);
-    let end = end_at(t, table, j, k);
-    if end < first {
-        return Span {
-            first: first,
-            count: 0,
-        };
-    }
+    let first = first_at(t, part, k);
     Span {
-        first: first,
-        count: end - first,
+        first,
+        count: end_at(t, part, k).saturating_sub(first),
     }
 }
 
@@ -503,7 +467,14 @@ pub fn constants_of(t: &[u64], k: usize) -> Span
     requires { k < 64 }
     ensures { SpanIs t.now 8 2 k result }
 {
-    span_of(t, CONSTANTS, FIRST_CONSTANT, k)
+    span_of(
+        t,
+        Part {
+            table: CONSTANTS,
+            word: FIRST_CONSTANT,
+        },
+        k,
+    )
 }
 
 // The instructions of chunk k among all.
@@ -511,41 +482,44 @@ pub fn instructions_of(t: &[u64], k: usize) -> Span
     requires { k < 64 }
     ensures { SpanIs t.now 9 3 k result }
 {
-    span_of(t, INSTRUCTIONS, FIRST_CODE, k)
-}
-
-#[derive(Clone, Copy)]
-pub enum Constant {
-    Kind(u8),
-    Missing,
+    span_of(
+        t,
+        Part {
+            table: INSTRUCTIONS,
+            word: FIRST_CODE,
+        },
+        k,
+    )
 }
 
 // K of a constant that is of no scalar's kind.
 const OTHER_CONSTANT: u8 = 255;
 
 // K of a constant as the walk takes it: one of a kind that the module lacks counts as any other.
+#[tactic(auto, unfolding(definition::specs::Module::known_const, definition::specs::Basics::choose))]
 fn known_const(float: u8, k: u8) -> u8
     ensures { result ≡ known_const float k }
 {
     if value_layout::is_lacking(float, k) {
-        return OTHER_CONSTANT;
+        OTHER_CONSTANT
+    } else {
+        k
     }
-    k
 }
 
-// Constant j of chunk k.
-pub fn constant_at(t: &[u64], k: usize, j: usize) -> Constant
+// The kind of constant j of chunk k, if there is such a constant.
+#[tactic(auto, using(crate::proofs::Laws::chunk_consts), unfolding(crate::specs::Tables::cap, crate::specs::Meaning::known_const_at, crate::specs::Meaning::const_at))]
+pub fn constant_at(t: &[u64], k: usize, j: usize) -> Option<u8>
     requires { k < 64 }
-    ensures { constant_of result ≡ get_elem? (chunk_of t.now k).consts j }
+    ensures { maybe result ≡ get_elem? (chunk_of t.now k).consts j }
 {
-    let s = constants_of(t, k);
-    let first = s.first;
-    let n = s.count;
-    if j < n {
-        let kind = limited8(cell(t, CONSTANTS, first + j, 1), 255);
-        return Constant::Kind(known_const(float_of(t), kind));
+    let Span { first, count } = constants_of(t, k);
+    if j < count {
+        let kind = cell(t, CONSTANTS, first + j, 1).min(MOST_8) as u8;
+        Some(known_const(float_of(t), kind))
+    } else {
+        None
     }
-    Constant::Missing
 }
 
 #[derive(Clone, Copy)]
@@ -557,21 +531,18 @@ pub struct Instr {
 }
 
 // Instruction i of all.
+#[tactic(auto, unfolding(crate::specs::Tables::cap))]
 pub fn instr_at(t: &[u64], i: usize) -> Instr
     requires { i < 4096 }
     ensures { InstrIs t.now i result }
 {
-    let at = FIRST_INSTRUCTION + i * 4;
-    let code = limited8(word(t, at), code::RETURN);
-    let row = code as usize;
-    let a = limited32(word(t, at + 1), ops::maximum_a(row));
-    let b = limited32(word(t, at + 2), ops::maximum_b(row));
-    let c = limited32(word(t, at + 3), ops::maximum_c(row));
+    let code = cell(t, INSTRUCTIONS, i, 0).min(LAST_CODE) as u8;
+    let row = usize::from(code);
     Instr {
-        code: code,
-        a: a,
-        b: b,
-        c: c,
+        code,
+        a: cell(t, INSTRUCTIONS, i, 1).min(ops::maximum(row, 0)) as u32,
+        b: cell(t, INSTRUCTIONS, i, 2).min(ops::maximum(row, 1)) as u32,
+        c: cell(t, INSTRUCTIONS, i, 3).min(ops::maximum(row, 2)) as u32,
     }
 }
 
@@ -588,7 +559,7 @@ fn taking(n: u32, pushed: u8) -> Effect
 {
     Effect {
         need: n,
-        net: (pushed as i64) - (n as i64),
+        net: i64::from(pushed) - i64::from(n),
     }
 }
 
@@ -598,47 +569,40 @@ const BYTE: u32 = scalar::BYTE as u32;
 const INT: u32 = scalar::INT as u32;
 
 // GetIndex Flat has a bounds outcome for bytes and integers.
+#[tactic(auto, unfolding(crate::specs::Parts::index_pushed, definition::specs::Basics::choose))]
 fn index_effect(k: u32) -> Effect
     ensures { (result.need ≡ 2) × (result.net ≡ pos (index_pushed k) -ℤ pos 2) }
 {
-    if k == BYTE {
-        return taking(2, 7);
-    }
-    if k == INT {
-        return taking(2, 7);
-    }
-    taking(2, 1)
+    taking(2, if matches!(k, BYTE | INT) { 7 } else { 1 })
 }
 
 // A native call's count has 7 bits; the eighth says that a flag is pushed after the result.
+#[tactic(auto, unfolding(crate::specs::Parts::native_pushed, definition::specs::Basics::choose))]
 fn native_effect(n: u32) -> Effect
     ensures { (result.need ≡ n % 128) × (result.net ≡ pos (native_pushed n) -ℤ pos (n % 128)) }
 {
-    if n < 128 {
-        return taking(n % 128, 1);
-    }
-    taking(n % 128, 2)
+    taking(n % 128, if n < 128 { 1 } else { 2 })
 }
 
 // A trap takes what its code says.
+#[tactic(auto, unfolding(crate::specs::Parts::trap_need, definition::specs::Basics::choose))]
 fn trap_effect(k: u32, index_trap: u16, host_trap: u16) -> Effect
     ensures { (result.need ≡ trap_need k index_trap host_trap) × (result.net ≡ pos 0 -ℤ pos (trap_need k index_trap host_trap)) }
 {
-    if k == (index_trap as u32) {
-        return taking(5, 0);
+    if k == u32::from(index_trap) {
+        taking(5, 0)
+    } else if k == u32::from(host_trap) {
+        taking(1, 0)
+    } else {
+        taking(0, 0)
     }
-    if k == (host_trap as u32) {
-        return taking(1, 0);
-    }
-    taking(0, 0)
 }
 
+#[tactic(auto, using(crate::proofs::Effects::effects))]
 pub fn op_depth_effect(i: Instr, index_trap: u16, host_trap: u16) -> Effect
     ensures { EffectIs i index_trap host_trap result }
 {
-    let code = i.code;
-    let a = i.a;
-    let b = i.b;
+    let Instr { code, a, b, .. } = i;
     match code {
         code::CONST..=code::PUSH_IMMEDIATE => Effect { need: 0, net: 1 },
         code::DUP => Effect { need: 1, net: 1 },

@@ -11,7 +11,7 @@ use Rattle.definition.specs.Shapes.{scalar_widths, is_lacking}
 use Rattle.definition.specs.Module.{Slot, shared, private, Private, Header, address_bytes}
 use Rattle.definition.specs.Layout.{shared_prefix, shared_count, unless_lacking, scalar_bytes, if_composite, shared_size, shared_fits, shared_test}
 use Rattle.definition.specs.Layout.{entry_test, order_test, private_test}
-use Rattle.bytecode.specs.Lists.{tabulate, tabulate-length}
+use Rattle.bytecode.specs.Lists.{maybe, tabulate, tabulate-length}
 use Rattle.bytecode.specs.Meaning.{count, table_header, slot_at, slot_of, shared_at, private_at, slots_of, shareds_of, privates_of}
 use Rattle.bytecode.specs.Parts.{header_of, WidthsOf, shared_of, private_of}
 use Rattle.bytecode.specs.declared.Header.{Header as CodeHeader}
@@ -21,7 +21,7 @@ use Rattle.value_layout.specs.Sizes.{width_of}
 use Rattle.value_layout.specs.declared.Widths.{Widths}
 use Rattle.answer.specs.declared.Refusal.{Refusal}
 use Rattle.answer.specs.Answer.{found_in_none}
-use Rattle.data_layout.specs.Answer.{size_of, before_of}
+use Rattle.data_layout.specs.Answer.{before_of}
 
 -- ── The rows of a table that are left ─────────────────────────────────────────────────────
 
@@ -123,21 +123,21 @@ module _ (w : Widths) (e : SharedEntry) (h : Header) (W : WidthsOf h w) where
   widths_are : scalar_widths h.word h.float (address_bytes h) ≡ scalar_widths w.word w.float w.address
   widths_are = rw (W.word_is, W.float_is, W.address_is)
 
-  pub size_composite : 128 ≤ e.kind → size_of (Some e.len) ≡ shared_size h (shared_of e)
-  unfolding shared_size if_composite shared_of size_of
+  pub size_composite : 128 ≤ e.kind → maybe (Some e.len) ≡ shared_size h (shared_of e)
+  unfolding shared_size if_composite shared_of
   size_composite l = rw (le-leb 128 e.kind l)
 
   lacks_same : is_lacking h.float e.kind ≡ is_lacking w.float e.kind
   lacks_same = rw W.float_is
 
   module _ (l : e.kind < 128) where
-    pub size_lacking : is_lacking w.float e.kind ≡ true → size_of None ≡ shared_size h (shared_of e)
-    unfolding shared_size if_composite shared_of size_of scalar_bytes unless_lacking
+    pub size_lacking : is_lacking w.float e.kind ≡ true → maybe None ≡ shared_size h (shared_of e)
+    unfolding shared_size if_composite shared_of scalar_bytes unless_lacking
     size_lacking f = rw (lt-leb 128 e.kind l, lacks_same, f)
 
     module _ (f : is_lacking w.float e.kind ≡ false) where
-      size_scalar : (n : ℕ) → leb e.kind 7 ≡ true → n ≡ width_of w e.kind → size_of (Some n) ≡ shared_size h (shared_of e)
-      unfolding shared_size if_composite shared_of size_of scalar_bytes unless_lacking
+      size_scalar : (n : ℕ) → leb e.kind 7 ≡ true → n ≡ width_of w e.kind → maybe (Some n) ≡ shared_size h (shared_of e)
+      unfolding shared_size if_composite shared_of scalar_bytes unless_lacking
       size_scalar n k z =
           let u : e.kind < 8 = omega (arith, leb-true e.kind 7 k) in
           rw (
@@ -149,8 +149,8 @@ module _ (w : Widths) (e : SharedEntry) (h : Header) (W : WidthsOf h w) where
             z,
           )
 
-      size_unknown : leb e.kind 7 ≡ false → size_of None ≡ shared_size h (shared_of e)
-      unfolding shared_size if_composite shared_of size_of scalar_bytes unless_lacking
+      size_unknown : leb e.kind 7 ≡ false → maybe None ≡ shared_size h (shared_of e)
+      unfolding shared_size if_composite shared_of scalar_bytes unless_lacking
       size_unknown k =
           let u : 7 < e.kind = leb-false e.kind 7 k in
           rw (
@@ -161,7 +161,7 @@ module _ (w : Widths) (e : SharedEntry) (h : Header) (W : WidthsOf h w) where
           )
 
       -- what is known of `bool::then`
-      pub size_if : (r : Maybe ℕ) → is_some r ≡ leb e.kind 7 → IfSome r (λ n. n ≡ width_of w e.kind) → size_of r ≡ shared_size h (shared_of e)
+      pub size_if : (r : Maybe ℕ) → is_some r ≡ leb e.kind 7 → IfSome r (λ n. n ≡ width_of w e.kind) → maybe r ≡ shared_size h (shared_of e)
       size_if (Some n) k z = size_scalar n (sym k) z
       size_if None k z = size_unknown (sym k)
 
@@ -182,8 +182,8 @@ module _ (t : List ℕ) where
   shared_end i l S = sym (S ∙ ap (shared_test (table_header t) i) (rest_none (shared_at t) (count t 2) i l))
 
   module _ (i : ℕ) (l : i < count t 2) (S : Shareds i) (buffer : ℕ) (b : buffer ≡ (table_header t).shared_bytes) (e : SharedEntry)
-      (x : shared_of e ≡ shared_at t i) (s : Maybe ℕ) (z : size_of s ≡ shared_size (table_header t) (shared_of e)) (r : Outcome Unit Refusal)
-      (n : found_in_none r ≡ shared_fits buffer i (shared_of e) (size_of s)) where
+      (x : shared_of e ≡ shared_at t i) (s : Maybe ℕ) (z : maybe s ≡ shared_size (table_header t) (shared_of e)) (r : Outcome Unit Refusal)
+      (n : found_in_none r ≡ shared_fits buffer i (shared_of e) (maybe s)) where
     pub shared_next : shared_test (table_header t) 0 (shareds_of t) ≡ first (found_in_none r) (shared_left (i + 1))
     unfolding shared_left shared_test
     shared_next =

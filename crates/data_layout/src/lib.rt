@@ -5,10 +5,11 @@ ghost use Rattle.std.specs.Prelude.{◌≡◌, length};
 ghost use Rattle.std.proofs.Math.Option.{none};
 ghost use Rattle.definition.specs.Module.{Header as AnyHeader};
 ghost use Rattle.definition.specs.Layout.{shared_prefix, shared_count, count_test, shared_size, shared_fits, shared_test, entry_test, order_test, private_test, layout_test};
+ghost use Rattle.bytecode.specs.Lists.{maybe};
 ghost use Rattle.bytecode.specs.Meaning.{table_header, slots_of, shareds_of, privates_of, module_of};
 ghost use Rattle.bytecode.specs.Parts.{WidthsOf, shared_of, private_of};
 ghost use Rattle.answer.specs.Answer.{found_in_none};
-ghost use Rattle.data_layout.specs.Answer.{size_of, before_of};
+ghost use Rattle.data_layout.specs.Answer.{before_of};
 
 use answer::Refusal;
 use answer::reason::{PrivateReason, SharedReason};
@@ -53,7 +54,7 @@ const FIRST_COMPOSITE: u8 = 128;
 
 // Bytes of a shared entry; a kind that is not known has no size.
 fn size_of(widths: Widths, entry: SharedEntry) -> Option<u32>
-    ensures { (h : AnyHeader) → WidthsOf h widths → size_of result ≡ shared_size h (shared_of entry) }
+    ensures { (h : AnyHeader) → WidthsOf h widths → maybe result ≡ shared_size h (shared_of entry) }
 {
     match entry.kind {
         FIRST_COMPOSITE.. => Some(u32::from(entry.len)),
@@ -64,7 +65,7 @@ fn size_of(widths: Widths, entry: SharedEntry) -> Option<u32>
 
 // Shared entry i. The sum is made at 64 bits, where it is exact; where there is no size it is refused with 0 for it.
 fn shared_slot(buffer: u32, i: usize, entry: SharedEntry, size: Option<u32>) -> Result<(), Refusal>
-    ensures { found_in_none result ≡ shared_fits buffer i (shared_of entry) (size_of size) }
+    ensures { found_in_none result ≡ shared_fits buffer i (shared_of entry) (maybe size) }
 {
     let offset = u64::from(entry.offset);
     let bytes = u64::from(buffer);

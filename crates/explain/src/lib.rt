@@ -2,20 +2,21 @@
 // length of the whole.
 #![tactic(auto)]
 
+mod counted;
 mod find;
 mod floats;
 mod lines;
 mod refusal;
 mod sentences;
-mod text;
 
+use crate::counted::Counted;
 use crate::find::Place;
 use crate::lines::{Line, Sort};
 use crate::refusal::NAMES;
 use crate::sentences::Refused;
-use crate::text::{Counted, Text};
 use std::fmt;
 use std::fmt::Write;
+use text_out::Text;
 
 const ACCEPTED: u64 = 0;
 

@@ -1,12 +1,13 @@
 // What a refusal says after its name.
+use crate::counted::Counted;
 use crate::find::{Place, find};
 use crate::floats;
 use crate::refusal::{
     CountReason, EntryReason, HeightFault, Limit, ReadFault, Refusal, ShapeFault, Span,
 };
-use crate::text::{Counted, Text};
 use std::fmt;
 use std::fmt::Write;
+use text_out::Text;
 
 fn bytes(count: u64) -> Counted {
     Counted(count, "byte")

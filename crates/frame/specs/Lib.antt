@@ -1,2 +1,3 @@
+pub mod Words
 pub mod Model
 pub mod Slots

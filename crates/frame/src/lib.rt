@@ -1,554 +1,385 @@
-// The state of the walk: the shape of each operand and local in a word, with its text places beside it, in two arrays that the caller lends and the functions here change
-// in place.
+// The state of the walk: the shape of each operand and local in a word, with its text places beside it. It is lent, and the methods here change it in place.
 #![tactic(auto)]
 
-ghost use Rattle.std.specs.Prelude.{◌≡◌, true, false, List, reverse, ℕ, ◌+◌, ◌*◌, ◌-◌, ◌≤◌, ◌<◌, length, take, drop, get_or, replicate};
-ghost use Rattle.std.proofs.Math.Seq.{paste};
+ghost use Rattle.std.specs.Prelude.{◌≡◌, ◌==◌, ◌&&◌, true, List, reverse, ℕ, ◌+◌, ◌-◌, ◌≤◌, ◌<◌, [], length, take, get_or, replicate};
 ghost use Rattle.definition.specs.Shapes.{unknown, same_shape, same_shapes, join};
 ghost use Rattle.definition.specs.Walk.{join_states};
 ghost use Rattle.definition.specs.Instructions.{Chunk};
 ghost use Rattle.definition.specs.Effects.{built_places, packed};
 ghost use Rattle.value_layout.specs.Sizes.{Wide};
-ghost use Rattle.shapes.specs.Model.{value_of, count_of};
+ghost use Rattle.shapes.specs.Model.{value_of};
 ghost use Rattle.shapes.specs.Cover.{covers, covers_all, covers_state};
 ghost use Rattle.shapes.specs.Text.{packed_of, Means};
-ghost use Rattle.frame.specs.Model.{slot_of, value_at, at, stack_of, locals_of, state_of, replaced, with_local, widened, Long};
-ghost use Rattle.frame.specs.Slots.{Written, Filled, Copied, Joined};
+ghost use Rattle.frame.specs.Words.{slot_of};
+ghost use Rattle.frame.specs.declared.TheConstants.{OPERANDS};
 
-use shapes::{Built, Packed, Places, Shape, Value};
+mod slot;
+
+use shapes::{Built, MOST_PLACES, Places, Shape, Value};
+use slot::{Held, Slot};
 use value_layout::Widths;
 
-// 64 operands, then 32 locals; sixteen places for each. What lies above the height, or past a count, means nothing.
+// As many operands and locals as there is room for.
+pub const OPERANDS: usize = 64;
+
+pub const LOCALS: usize = 32;
+
+const SLOTS: usize = OPERANDS + LOCALS;
+
+const PLACES: usize = SLOTS * MOST_PLACES;
+
+// Of each operand and then of each local a word, and its text places in an array beside the words: two words are compared at once, a state is copied only as far as it is in use, and the flat
+// array of offsets is a form that the check is asked for. What lies above the height, or past a count of places, means nothing.
 #[derive(Clone, Copy)]
 pub struct State {
     pub height: usize,
-    pub slots: [u64; 96],
-    pub places: [u32; 1536],
+    pub slots: [u64; SLOTS],
+    pub places: [u32; PLACES],
 }
-
-// ---- words
-
-// The shape of an operand or local, and how many of its places are known; over 16 says that they are unknown.
-#[derive(Clone, Copy)]
-pub struct Slot {
-    pub shape: Shape,
-    pub known: u8,
-}
-
-// A word has 2 bits that say which shape it is, 8 of its kind, 8 of the count of places, then the size.
-fn word_of(shape: Shape, known: u8) -> u64
-    ensures { slot_of result ≡ record { shape = shape; known = known } }
-{
-    let n = 1024 * (known as u64);
-    match shape {
-        Shape::Unknown => n,
-        Shape::Scalar(k) => 1 + 4 * (k as u64) + n,
-        Shape::Composite(k, m) => 2 + 4 * (k as u64) + n + 262144 * (m as u64),
-    }
-}
-
-fn slot_in(w: u64) -> Slot
-    ensures { result ≡ slot_of w }
-{
-    let tag = w % 4;
-    let kind = (w / 4 % 256) as u8;
-    let known = (w / 1024 % 256) as u8;
-    let size = (w / 262144 % 4294967296) as u32;
-    if tag == 0 {
-        return Slot {
-            shape: Shape::Unknown,
-            known: known,
-        };
-    }
-    if tag == 1 {
-        return Slot {
-            shape: Shape::Scalar(kind),
-            known: known,
-        };
-    }
-    Slot {
-        shape: Shape::Composite(kind, size),
-        known: known,
-    }
-}
-
-// Whether a word says by itself what its value is: no place is known.
-fn is_plain(w: u64) -> bool
-    ensures { result ≡ true → count_of (slot_of w).known ≡ 0 }
-{
-    let slot = slot_in(w);
-    shapes::known_places(slot.known) == 0
-}
-
-// ---- places
-
-// The first n of v laid in from `at` on.
-fn put(places: &mut [u32; 1536], at: usize, v: [u32; 16], n: usize)
-    requires { (length places.old ≡ 1536) × (at + 16 ≤ 1536) × (n ≤ 16) }
-    ensures { (length places.new ≡ 1536) × (places.new ≡ paste places.old at v n) }
-{
-    let mut j = 0;
-    while j < n {
-        places[at + j] = v[j];
-        j += 1;
-    }
-}
-
-// The first n of the places from `at` on.
-fn cut(places: &[u32; 1536], at: usize, n: usize) -> [u32; 16]
-    requires { (length places.now ≡ 1536) × (at + 16 ≤ 1536) × (n ≤ 16) }
-    ensures { result ≡ paste (replicate 16 0) 0 (drop at places.now) n }
-{
-    let mut out = [0u32; 16];
-    let mut j = 0;
-    while j < n {
-        out[j] = places[at + j];
-        j += 1;
-    }
-    out
-}
-
-// ---- one slot
-
-// The value of slot i. Places are copied only as far as they are known.
-pub fn value_at(slots: &[u64; 96], places: &[u32; 1536], i: usize) -> Value
-    requires { Long slots.now places.now × (i < 96) }
-    ensures { value_of result ≡ value_at slots.now places.now i }
-{
-    let slot = slot_in(slots[i]);
-    let shape = slot.shape;
-    let n = shapes::known_places(slot.known);
-    let q = cut(places, i * 16, n);
-    Value {
-        shape: shape,
-        known: slot.known,
-        places: q,
-    }
-}
-
-// The shape of slot i alone.
-pub fn shape_at(slots: &[u64; 96], i: usize) -> Shape
-    requires { (length slots.now ≡ 96) × (i < 96) }
-    ensures { result ≡ (slot_of (get_or slots.now i 0)).shape }
-{
-    let slot = slot_in(slots[i]);
-    let shape = slot.shape;
-    shape
-}
-
-// Slot i becomes v, and the others stay.
-pub fn write(slots: &mut [u64; 96], places: &mut [u32; 1536], i: usize, v: Value)
-    requires { Long slots.old places.old × (i < 96) }
-    ensures { Long slots.new places.new × ((h : ℕ) → Written (at h slots.old places.old) i (value_of v) (at h slots.new places.new)) }
-{
-    let w = v.places;
-    let n = shapes::known_places(v.known);
-    let shape = v.shape;
-    slots[i] = word_of(shape, v.known);
-    put(places, i * 16, w, n);
-}
-
-// The operand under the i top ones; unknown where there is none.
-pub fn operand(slots: &[u64; 96], places: &[u32; 1536], height: usize, i: usize) -> Value
-    requires { Long slots.now places.now × (height ≤ 64) }
-    ensures { value_of result ≡ get_or (stack_of (at height slots.now places.now)) i unknown }
-{
-    if i < height {
-        value_at(slots, places, height - 1 - i)
-    } else {
-        shapes::unknown_value()
-    }
-}
-
-// ---- operands
-
-// The slots from lo up to hi become v.
-fn fill(slots: &mut [u64; 96], places: &mut [u32; 1536], lo: usize, hi: usize, v: Value)
-    requires { Long slots.old places.old × (lo ≤ hi) × (hi ≤ 96) }
-    ensures { Long slots.new places.new × ((h : ℕ) → Filled (at h slots.old places.old) lo hi (value_of v) (at h slots.new places.new)) }
-{
-    let mut i = lo;
-    while i < hi {
-        write(slots, places, i, v);
-        i += 1;
-    }
-}
-
-// Takes operands, then pushes v so many times and above it so many of another; gives the height after.
-pub fn replace(
-    slots: &mut [u64; 96],
-    places: &mut [u32; 1536],
-    height: usize,
-    take: usize,
-    v: Value,
-    times: usize,
-    above: Value,
-    more: usize,
-) -> usize
-    requires { Long slots.old places.old × (take ≤ height) × (height ≤ 64) × (height - take + times + more ≤ 64) }
-    ensures { Long slots.new places.new × (result ≡ height - take + times + more) × ((locals : ℕ) → locals ≤ 32 → state_of locals (at result slots.new places.new) ≡ replaced take (value_of v) times (value_of above) more (state_of locals (at height slots.old places.old))) }
-{
-    let a = height - take;
-    let b = a + times;
-    fill(slots, places, a, b, v);
-    fill(slots, places, b, b + more, above);
-    b + more
-}
-
-// ---- locals
-
-// A local past the last is not written.
-pub fn set_local(slots: &mut [u64; 96], places: &mut [u32; 1536], i: usize, v: Value, locals: usize)
-    requires { Long slots.old places.old × (locals ≤ 32) }
-    ensures { Long slots.new places.new × ((h : ℕ) → h ≤ 64 → state_of locals (at h slots.new places.new) ≡ with_local i (value_of v) (state_of locals (at h slots.old places.old))) }
-{
-    if i < locals {
-        write(slots, places, 64 + i, v);
-    }
-}
-
-// ---- copies
-
-// Slot i becomes that of another state.
-fn copy_slot(
-    slots: &mut [u64; 96],
-    places: &mut [u32; 1536],
-    others: &[u64; 96],
-    held: &[u32; 1536],
-    i: usize,
-)
-    requires { Long slots.old places.old × Long others.now held.now × (i < 96) }
-    ensures { Long slots.new places.new × ((h : ℕ) → Written (at h slots.old places.old) i (value_at others.now held.now i) (at h slots.new places.new)) }
-{
-    let w = others[i];
-    slots[i] = w;
-    let slot = slot_in(w);
-    let n = shapes::known_places(slot.known);
-    let q = cut(held, i * 16, n);
-    put(places, i * 16, q, n);
-}
-
-// The slots from lo up to hi become those of another state.
-fn copy_slots(
-    slots: &mut [u64; 96],
-    places: &mut [u32; 1536],
-    others: &[u64; 96],
-    held: &[u32; 1536],
-    lo: usize,
-    hi: usize,
-)
-    requires { Long slots.old places.old × Long others.now held.now × (lo ≤ hi) × (hi ≤ 96) }
-    ensures { Long slots.new places.new × (Copied (at 0 slots.old places.old) (at 0 others.now held.now) lo hi (at 0 slots.new places.new)) }
-{
-    let mut i = lo;
-    while i < hi {
-        copy_slot(slots, places, others, held, i);
-        i += 1;
-    }
-}
-
-// The operands and locals become those of another state of so many operands.
-pub fn copy(
-    slots: &mut [u64; 96],
-    places: &mut [u32; 1536],
-    others: &[u64; 96],
-    held: &[u32; 1536],
-    height: usize,
-    locals: usize,
-)
-    requires { Long slots.old places.old × Long others.now held.now × (height ≤ 64) × (locals ≤ 32) }
-    ensures { Long slots.new places.new × (state_of locals (at height slots.new places.new) ≡ state_of locals (at height others.now held.now)) }
-{
-    copy_slots(slots, places, others, held, 0, height);
-    copy_slots(slots, places, others, held, 64, 64 + locals);
-}
-
-// ---- joins
-
-// Whether slot i covers that of another state.
-fn covers_at(
-    slots: &[u64; 96],
-    places: &[u32; 1536],
-    others: &[u64; 96],
-    held: &[u32; 1536],
-    i: usize,
-) -> bool
-    requires { Long slots.now places.now × Long others.now held.now × (i < 96) }
-    ensures { result ≡ covers (value_at slots.now places.now i) (value_at others.now held.now i) }
-{
-    let a = slots[i];
-    if a == others[i] {
-        if is_plain(a) {
-            return true;
-        }
-    }
-    let x = value_at(slots, places, i);
-    let y = value_at(others, held, i);
-    x.covers(y)
-}
-
-// Slot i becomes the join with that of another state.
-fn join_slot(
-    slots: &mut [u64; 96],
-    places: &mut [u32; 1536],
-    others: &[u64; 96],
-    held: &[u32; 1536],
-    i: usize,
-)
-    requires { Long slots.old places.old × Long others.now held.now × (i < 96) }
-    ensures { Long slots.new places.new × ((h : ℕ) → Written (at h slots.old places.old) i (join (value_at slots.old places.old i) (value_at others.now held.now i)) (at h slots.new places.new)) }
-{
-    if covers_at(slots, places, others, held, i) {
-        return;
-    }
-    let x = value_at(slots, places, i);
-    let y = value_at(others, held, i);
-    let v = x.join(y);
-    write(slots, places, i, v);
-}
-
-// In the slots from lo up to hi the join with those of another state.
-fn join_slots(
-    slots: &mut [u64; 96],
-    places: &mut [u32; 1536],
-    others: &[u64; 96],
-    held: &[u32; 1536],
-    lo: usize,
-    hi: usize,
-)
-    requires { Long slots.old places.old × Long others.now held.now × (lo ≤ hi) × (hi ≤ 96) }
-    ensures { Long slots.new places.new × ((h : ℕ) → Joined (at h slots.old places.old) (at h others.now held.now) lo hi (at h slots.new places.new)) }
-{
-    let mut i = lo;
-    while i < hi {
-        join_slot(slots, places, others, held, i);
-        i += 1;
-    }
-}
-
-// The join with another state of the same height.
-pub fn join(
-    slots: &mut [u64; 96],
-    places: &mut [u32; 1536],
-    others: &[u64; 96],
-    held: &[u32; 1536],
-    height: usize,
-    locals: usize,
-)
-    requires { Long slots.old places.old × Long others.now held.now × (height ≤ 64) × (locals ≤ 32) }
-    ensures { Long slots.new places.new × (state_of locals (at height slots.new places.new) ≡ join_states (state_of locals (at height slots.old places.old)) (state_of locals (at height others.now held.now))) }
-{
-    join_slots(slots, places, others, held, 0, height);
-    join_slots(slots, places, others, held, 64, 64 + locals);
-}
-
-// The operands stay, and each local becomes its join with another state's.
-pub fn join_locals(
-    slots: &mut [u64; 96],
-    places: &mut [u32; 1536],
-    others: &[u64; 96],
-    held: &[u32; 1536],
-    locals: usize,
-)
-    requires { Long slots.old places.old × Long others.now held.now × (locals ≤ 32) }
-    ensures { Long slots.new places.new × ((h : ℕ) → h ≤ 64 → state_of locals (at h slots.new places.new) ≡ widened (state_of locals (at h slots.old places.old)) (state_of locals (at h others.now held.now))) }
-{
-    join_slots(slots, places, others, held, 64, 64 + locals);
-}
-
-// ---- comparisons
-
-// Whether slot i is that of another state.
-fn same_at(
-    slots: &[u64; 96],
-    places: &[u32; 1536],
-    others: &[u64; 96],
-    held: &[u32; 1536],
-    i: usize,
-) -> bool
-    requires { Long slots.now places.now × Long others.now held.now × (i < 96) }
-    ensures { result ≡ same_shape (value_at slots.now places.now i) (value_at others.now held.now i) }
-{
-    let a = slots[i];
-    if a == others[i] {
-        if is_plain(a) {
-            return true;
-        }
-    }
-    let x = value_at(slots, places, i);
-    let y = value_at(others, held, i);
-    x.same(y)
-}
-
-// Whether two states have the same operands.
-pub fn same_stack(
-    slots: &[u64; 96],
-    places: &[u32; 1536],
-    height: usize,
-    others: &[u64; 96],
-    held: &[u32; 1536],
-    other: usize,
-) -> bool
-    requires { Long slots.now places.now × Long others.now held.now × (height ≤ 64) }
-    ensures { result ≡ same_shapes (stack_of (at height slots.now places.now)) (stack_of (at other others.now held.now)) }
-{
-    if height != other {
-        return false;
-    }
-    let mut i = 0;
-    while i < height {
-        if same_at(slots, places, others, held, i) {
-            i += 1;
-        } else {
-            return false;
-        }
-    }
-    true
-}
-
-// Whether a join with another state's locals would leave these as they are.
-pub fn covers_locals(
-    slots: &[u64; 96],
-    places: &[u32; 1536],
-    others: &[u64; 96],
-    held: &[u32; 1536],
-    locals: usize,
-) -> bool
-    requires { Long slots.now places.now × Long others.now held.now × (locals ≤ 32) }
-    ensures { (h g : ℕ) → result ≡ covers_all (locals_of locals (at h slots.now places.now)) (locals_of locals (at g others.now held.now)) }
-{
-    let hi = 64 + locals;
-    let mut i = 64;
-    while i < hi {
-        if covers_at(slots, places, others, held, i) {
-            i += 1;
-        } else {
-            return false;
-        }
-    }
-    true
-}
-
-// Whether a join with another state's operands, of which there are as many, would leave these as they are.
-fn covers_stack(
-    slots: &[u64; 96],
-    places: &[u32; 1536],
-    others: &[u64; 96],
-    held: &[u32; 1536],
-    height: usize,
-) -> bool
-    requires { Long slots.now places.now × Long others.now held.now × (height ≤ 64) }
-    ensures { result ≡ covers_all (stack_of (at height slots.now places.now)) (stack_of (at height others.now held.now)) }
-{
-    let mut i = 0;
-    while i < height {
-        if covers_at(slots, places, others, held, i) {
-            i += 1;
-        } else {
-            return false;
-        }
-    }
-    true
-}
-
-// ---- whole states
 
 impl State {
-    // The join of two states of one height, by value.
-    pub fn join(self, other: State, locals: usize) -> State
-        requires { (self.height ≤ 64) × (self.height ≡ other.height) × (locals ≤ 32) }
-        ensures { (result.height ≡ self.height) × (state_of locals result ≡ join_states (state_of locals self) (state_of locals other)) }
+    ghost use Rattle.frame.specs.Model.{valued, value_at, locals_of, state_of};
+    ghost use Rattle.frame.specs.Slots.{Written, Changed};
+
+    // ---- one slot
+
+    // What slot i holds.
+    #[tactic(auto, using(crate::proofs::Words::few_counted))]
+    fn held_at(&self, i: usize) -> Held<'_>
+        requires { i < SLOTS }
+        ensures word { result.word ≡ get_or self.now.slots i 0 }
+        ensures value { valued (slot_of result.word) result.places.now ≡ value_at self.now i }
     {
-        let h = self.height;
-        let mut slots = self.slots;
-        let mut places = self.places;
-        let others = other.slots;
-        let held = other.places;
-        join(&mut slots, &mut places, &others, &held, h, locals);
-        State {
-            height: h,
-            slots: slots,
-            places: places,
+        let word = self.slots[i];
+        let at = i * MOST_PLACES;
+        let places = &self.places[at..at + Slot::from(word).counted()];
+        Held { word, places }
+    }
+
+    // The value of slot i.
+    pub fn value_at(&self, i: usize) -> Value
+        requires { i < SLOTS }
+        ensures { value_of result ≡ value_at self.now i }
+    {
+        Value::from(self.held_at(i))
+    }
+
+    // The shape of slot i alone.
+    pub fn shape_at(&self, i: usize) -> Shape
+        requires { i < SLOTS }
+        ensures { result ≡ (slot_of (get_or self.now.slots i 0)).shape }
+    {
+        Slot::from(self.slots[i]).shape
+    }
+
+    // Slot i gets a word with its places. Where there are none, which is so of most, even a copy of nothing would be a call.
+    #[tactic(auto, using(crate::proofs::Words::few_counted))]
+    fn put(&mut self, i: usize, held: Held<'_>)
+        requires { i < SLOTS }
+        ensures { Written self.old i (valued (slot_of held.entry.word) held.entry.places.now) self.new }
+    {
+        let Held { word, places } = held;
+        let at = i * MOST_PLACES;
+        self.slots[i] = word;
+        if !places.is_empty() {
+            self.places[at..at + places.len()].copy_from_slice(places);
         }
     }
 
-    // Whether a join with another state would leave this one as it is.
+    // Slot i becomes v, and the others stay.
+    pub fn write(&mut self, i: usize, v: Value)
+        requires { i < SLOTS }
+        ensures { Written self.old i (value_of v) self.new }
+    {
+        self.put(i, Held::from(&v));
+    }
+
+    // The slots from lo up to hi become v. This loop and those of `copy_slots` and `join_slots` stay three: one that is given the step would have to ask in its contract what the step writes.
+    #[tactic(auto, using(crate::proofs::Stores::changes))]
+    fn fill(&mut self, lo: usize, hi: usize, v: &Value)
+        requires { (lo ≤ hi) × (hi ≤ SLOTS) }
+        ensures { Changed self.old lo hi (λ j. value_of v.now) self.new }
+    {
+        for i in lo..hi {
+            self.put(i, Held::from(v));
+        }
+    }
+
+    // ---- another state's slots
+
+    // Slot i becomes that of another state.
+    fn copy_slot(&mut self, other: &State, i: usize)
+        requires { i < SLOTS }
+        ensures { Written self.old i (value_at other.now i) self.new }
+    {
+        self.put(i, other.held_at(i));
+    }
+
+    // The slots from lo up to hi become those of another state.
+    #[tactic(auto, using(crate::proofs::Stores::changes))]
+    fn copy_slots(&mut self, other: &State, lo: usize, hi: usize)
+        requires { (lo ≤ hi) × (hi ≤ SLOTS) }
+        ensures { Changed self.old lo hi (value_at other.now) self.new }
+    {
+        for i in lo..hi {
+            self.copy_slot(other, i);
+        }
+    }
+
+    // Whether the words of slot i here and in another state are one, which says by itself what its value is: it counts no places.
+    #[tactic(auto, using(crate::proofs::Words::plain_same))]
+    fn is_one_word(&self, other: &State, i: usize) -> bool
+        requires { i < SLOTS }
+        ensures { result ≡ true → value_at self.now i ≡ value_at other.now i }
+    {
+        let word = self.slots[i];
+        word == other.slots[i] && Slot::from(word).counted() == 0
+    }
+
+    // Whether slot i is that of another state.
+    #[tactic(auto, using(crate::proofs::Joins::same_equal))]
+    fn same_at(&self, other: &State, i: usize) -> bool
+        requires { i < SLOTS }
+        ensures { result ≡ same_shape (value_at self.now i) (value_at other.now i) }
+    {
+        self.is_one_word(other, i) || self.value_at(i).same(other.value_at(i))
+    }
+
+    // Whether slot i covers that of another state. Put in where it is asked, since most words are one and are seen to be so at once.
+    #[tactic(auto, using(crate::proofs::Joins::covers_equal))]
+    #[inline(always)]
+    fn covers_at(&self, other: &State, i: usize) -> bool
+        requires { i < SLOTS }
+        ensures { result ≡ covers (value_at self.now i) (value_at other.now i) }
+    {
+        self.is_one_word(other, i) || self.value_at(i).covers(other.value_at(i))
+    }
+
+    // Slot i becomes the join with that of another state.
+    #[tactic(auto, using(crate::proofs::Joins::join_covered))]
+    fn join_slot(&mut self, other: &State, i: usize)
+        requires { i < SLOTS }
+        ensures { Written self.old i (join (value_at self.old i) (value_at other.now i)) self.new }
+    {
+        if !self.covers_at(other, i) {
+            let v = self.value_at(i).join(other.value_at(i));
+            self.write(i, v);
+        }
+    }
+
+    // In the slots from lo up to hi the join with those of another state.
+    #[tactic(auto, using(crate::proofs::Stores::changes))]
+    fn join_slots(&mut self, other: &State, lo: usize, hi: usize)
+        requires { (lo ≤ hi) × (hi ≤ SLOTS) }
+        ensures { Changed self.old lo hi (λ j. join (value_at self.old j) (value_at other.now j)) self.new }
+    {
+        for i in lo..hi {
+            self.join_slot(other, i);
+        }
+    }
+
+    // Whether a join with another state's locals would leave these as they are.
+    pub fn covers_locals(&self, other: &State, locals: usize) -> bool
+        requires { locals ≤ LOCALS }
+        ensures { result ≡ covers_all (locals_of locals self.now) (locals_of locals other.now) }
+    {
+        (OPERANDS..OPERANDS + locals).all(|i| self.covers_at(other, i))
+    }
+
+    // ---- whole states by value
+
+    // The join of two states of one height.
+    pub fn join(self, other: State, locals: usize) -> State
+        requires low { self.height ≤ OPERANDS }
+        requires one_height { self.height ≡ other.height }
+        requires locals { locals ≤ LOCALS }
+        ensures height { result.height ≡ self.height }
+        ensures state { state_of locals result ≡ join_states (state_of locals self) (state_of locals other) }
+    {
+        let mut joined = Frame { state: self };
+        joined.join_with(&Frame { state: other }, locals);
+        joined.state
+    }
+
+    // Whether a join with another state, of any height, would leave this one as it is.
+    #[tactic(auto, using(crate::proofs::Joins::state_covers))]
     pub fn covers(self, other: State, locals: usize) -> bool
-        requires { (self.height ≤ 64) × (locals ≤ 32) }
+        requires low { self.height ≤ OPERANDS }
+        requires locals { locals ≤ LOCALS }
         ensures { result ≡ covers_state (state_of locals self) (state_of locals other) }
     {
-        let h = self.height;
-        if h != other.height {
-            return false;
-        }
-        let slots = self.slots;
-        let places = self.places;
-        let others = other.slots;
-        let held = other.places;
-        if covers_stack(&slots, &places, &others, &held, h) {
-            covers_locals(&slots, &places, &others, &held, locals)
+        let frame = Frame { state: self };
+        frame.covers_stack(&other) && frame.state.covers_locals(&other, locals)
+    }
+}
+
+// The state as it is lent: its operands are in the slots that are theirs.
+#[derive(Clone, Copy)]
+pub struct Frame {
+    pub state: State,
+    ghost low: { state.height ≤ OPERANDS },
+}
+
+impl Frame {
+    ghost use Rattle.frame.specs.Model.{stack_of, state_of, popped, replaced, with_local, widened};
+
+    // No operands, and every local unknown.
+    pub fn new() -> Frame
+        ensures height { result.state.height ≡ 0 }
+        ensures state { (locals : ℕ) → locals ≤ LOCALS → state_of locals result.state ≡ record { stack = []; locals = replicate locals unknown } }
+    {
+        let state = State {
+            height: 0,
+            slots: [0; SLOTS],
+            places: [0; PLACES],
+        };
+        Frame { state }
+    }
+
+    // ---- operands
+
+    // The operand under the i top ones; unknown where there is none.
+    #[tactic(auto, using(crate::proofs::Stores::tops))]
+    pub fn operand(&self, i: usize) -> Value
+        ensures { value_of result ≡ get_or (stack_of self.now.state) i unknown }
+    {
+        if i < self.state.height {
+            self.state.value_at(self.state.height - 1 - i)
         } else {
-            false
+            shapes::unknown_value()
         }
     }
-}
 
-// ---- new composites
-
-// The bytes of the n top operands, packed.
-pub fn packed_size(slots: &[u64; 96], height: usize, n: usize, w: Widths) -> Packed
-    requires { (length slots.now ≡ 96) × (n ≤ height) × (height ≤ 64) }
-    ensures { (c : Chunk) (places : List ℕ) → Wide w c → packed_of result ≡ packed c (take n (stack_of (at height slots.now places))) }
-{
-    let lo = height - n;
-    let mut size: u32 = 0;
-    let mut i = 0;
-    while i < n {
-        let shape = shape_at(slots, lo + i);
-        let p = shape.packed_size(w);
-        let Packed::Bytes(b) = p else {
-            return Packed::NotKnown;
-        };
-        size = shapes::saturating_add(size, b);
-        i += 1;
+    // Takes the top operand.
+    #[tactic(auto, using(crate::proofs::Stores::pop_law))]
+    pub fn pop(&mut self)
+        requires { 0 < self.old.state.height }
+        ensures height { self.new.state.height + 1 ≡ self.old.state.height }
+        ensures state { (locals : ℕ) → state_of locals self.new.state ≡ popped 1 (state_of locals self.old.state) }
+    {
+        self.state.height -= 1;
     }
-    Packed::Bytes(size)
-}
 
-// The text places of a body packed from the n top operands.
-pub fn built_text_layout(
-    slots: &[u64; 96],
-    places: &[u32; 1536],
-    height: usize,
-    n: usize,
-    w: Widths,
-) -> Built
-    requires { Long slots.now places.now × (n ≤ height) × (height ≤ 64) }
-    ensures { (c : Chunk) → Wide w c → Means result (built_places c 0 (reverse (take n (stack_of (at height slots.now places.now))))) }
-{
-    let lo = height - n;
-    let mut at: u32 = 0;
-    let mut held = [0u32; 16];
-    let mut count: u8 = 0;
-    let mut i = 0;
-    while i < n {
-        let v = value_at(slots, places, lo + i);
-        let t = shapes::add_text(&mut held, count, at, v);
-        let shape = v.shape;
-        let p = shape.packed_size(w);
-        if t.open {
-            return shapes::open_layout();
+    // Takes operands, then pushes v so many times and above it so many of another.
+    pub fn replace(&mut self, take: usize, v: Value, times: usize, above: Value, more: usize)
+        requires taken { take ≤ self.old.state.height }
+        requires room { self.old.state.height - take + times + more ≤ OPERANDS }
+        ensures height { self.new.state.height ≡ self.old.state.height - take + times + more }
+        ensures state { (locals : ℕ) → locals ≤ LOCALS → state_of locals self.new.state ≡ replaced take (value_of v) times (value_of above) more (state_of locals self.old.state) }
+    {
+        let s = &mut self.state;
+        let a = s.height - take;
+        let b = a + times;
+        s.fill(a, b, &v);
+        s.fill(b, b + more, &above);
+        s.height = b + more;
+    }
+
+    // ---- locals
+
+    // A local past the last is not written.
+    #[tactic(auto, using(crate::proofs::Stores::locals))]
+    pub fn set_local(&mut self, i: usize, v: Value, locals: usize)
+        requires { locals ≤ LOCALS }
+        ensures height { self.new.state.height ≡ self.old.state.height }
+        ensures state { state_of locals self.new.state ≡ with_local i (value_of v) (state_of locals self.old.state) }
+    {
+        if i < locals {
+            self.state.write(OPERANDS + i, v);
         }
-        let Packed::Bytes(b) = p else {
-            return shapes::open_layout();
-        };
-        count = t.count;
-        at = shapes::saturating_add(at, b);
-        i += 1;
     }
-    let all = Places {
-        count: count,
-        at: held,
-    };
-    all.layout()
+
+    // ---- another frame's state
+
+    // The operands and locals become those of another.
+    pub fn copy(&mut self, other: &Frame, locals: usize)
+        requires { locals ≤ LOCALS }
+        ensures height { self.new.state.height ≡ other.now.state.height }
+        ensures state { state_of locals self.new.state ≡ state_of locals other.now.state }
+    {
+        let s = &mut self.state;
+        let from = &other.state;
+        s.copy_slots(from, 0, from.height);
+        s.copy_slots(from, OPERANDS, OPERANDS + locals);
+        s.height = from.height;
+    }
+
+    // The join with another of the same height.
+    pub fn join_with(&mut self, other: &Frame, locals: usize)
+        requires one_height { self.old.state.height ≡ other.now.state.height }
+        requires locals { locals ≤ LOCALS }
+        ensures height { self.new.state.height ≡ self.old.state.height }
+        ensures state { state_of locals self.new.state ≡ join_states (state_of locals self.old.state) (state_of locals other.now.state) }
+    {
+        let s = &mut self.state;
+        s.join_slots(&other.state, 0, s.height);
+        s.join_slots(&other.state, OPERANDS, OPERANDS + locals);
+    }
+
+    // The operands stay, and each local becomes its join with another state's.
+    #[tactic(auto, using(crate::proofs::Joins::widen_law))]
+    pub fn join_locals(&mut self, other: &State, locals: usize)
+        requires { locals ≤ LOCALS }
+        ensures height { self.new.state.height ≡ self.old.state.height }
+        ensures state { state_of locals self.new.state ≡ widened (state_of locals self.old.state) (state_of locals other.now) }
+    {
+        self.state.join_slots(other, OPERANDS, OPERANDS + locals);
+    }
+
+    // Whether the operands are those of another state, of any height.
+    pub fn same_stack(&self, other: &State) -> bool
+        ensures { result ≡ same_shapes (stack_of self.now.state) (stack_of other.now) }
+    {
+        let s = &self.state;
+        s.height == other.height && (0..s.height).all(|i| s.same_at(other, i))
+    }
+
+    // Whether there are as many operands as in another state, and a join with those would leave these as they are.
+    fn covers_stack(&self, other: &State) -> bool
+        ensures { result ≡ (self.now.state.height == other.now.height && covers_all (stack_of self.now.state) (stack_of other.now)) }
+    {
+        let s = &self.state;
+        s.height == other.height && (0..s.height).all(|i| s.covers_at(other, i))
+    }
+
+    // ---- new composites
+
+    // The bytes of the n top operands, packed, where they are known.
+    pub fn packed_size(&self, n: usize, w: Widths) -> Option<u32>
+        requires { n ≤ self.now.state.height }
+        ensures { (c : Chunk) → Wide w c → packed_of result ≡ packed c (take n (stack_of self.now.state)) }
+    {
+        let s = &self.state;
+        let lo = s.height - n;
+        let mut size = 0u32;
+        for i in 0..n {
+            size = size.saturating_add(s.shape_at(lo + i).packed_size(w)?);
+        }
+        Some(size)
+    }
+
+    // The text places of a body packed from the n top operands.
+    pub fn built_text_layout(&self, n: usize, w: Widths) -> Built
+        requires { n ≤ self.now.state.height }
+        ensures { (c : Chunk) → Wide w c → Means result (built_places c 0 (reverse (take n (stack_of self.now.state)))) }
+    {
+        let s = &self.state;
+        let lo = s.height - n;
+        let mut at = 0u32;
+        let mut held = Places::new();
+        let mut whole = Ok(());
+        for i in 0..n {
+            let v = s.value_at(lo + i);
+            let Some(added) = held.add_text(at, v) else {
+                return Ok(None);
+            };
+            let Some(bytes) = v.shape.packed_size(w) else {
+                return Ok(None);
+            };
+            whole = whole.and(added);
+            at = at.saturating_add(bytes);
+        }
+        whole?;
+        Ok(Some(held))
+    }
 }

@@ -1,57 +1,35 @@
-// Joins and covers of the same two states in three ways: by value (`State::join`, `State::covers`), on lent arrays as the walk does it, and value by value. A line for each pair of
+// Joins and covers of the same two states in three ways: by value (`State::join`, `State::covers`), on lent frames as the walk does it, and value by value. A line for each pair of
 // states says how many values the join changes, whether the first state covers the second, and whether the three ways agree.
 #![tactic(auto)]
 
-ghost use Rattle.std.specs.Prelude.{◌≡◌, ◌≤◌, ◌<◌};
+ghost use Rattle.std.specs.Prelude.{◌≡◌, ℕ, ◌+◌, ◌≤◌, ◌<◌, length};
 
-use frame::State;
-use shapes::{Places, UNKNOWN_PLACES, Value};
+use frame::{Frame, LOCALS, OPERANDS, State};
+use shapes::{Places, Value};
 use std::io;
-use std::io::Write;
+use std::ops::Range;
 use value_layout::{composite, scalar};
-
-fn print(rt: &impl Print, text: &[u8]) -> io::Result<()> {
-    io::writer(rt).write_all(text)
-}
-
-fn print_number(rt: &impl Print, text: &[u8], n: usize) -> io::Result<()> {
-    print(rt, text)?;
-    print!(rt; "{n}")
-}
 
 // ---- states
 
-// A tuple of 32 bytes with so many places, at 0 and 16.
-fn tuple(count: u8) -> Value {
-    let mut at = [0u32; 16];
-    at[1] = 16;
-    let places = Places {
-        count: count,
-        at: at,
-    };
-    shapes::composite_value(composite::TUPLE, 32, places)
+// A tuple of 32 bytes with these places.
+fn tuple(places: &[u32]) -> Value
+    requires { length places.now ≤ 16 }
+{
+    shapes::composite_value(composite::TUPLE, 32, Some(Places::from_slice(places)))
 }
 
-// An array of 32 bytes, which differs from such a tuple in its kind alone.
-fn array() -> Value {
-    let places = Places {
-        count: 0,
-        at: [0u32; 16],
-    };
-    shapes::composite_value(composite::ARRAY, 32, places)
-}
-
-// A few values, so that equal ones meet, and ones that differ in their places alone.
+// A few values, so that equal ones meet, and ones that differ in their places alone, or in their kind alone.
 fn value_of(n: u64) -> Value {
     match n % 8 {
         0 => shapes::unknown_value(),
         1 => shapes::scalar_value(scalar::INT),
         2 => shapes::scalar_value(scalar::TEXT),
-        3 => tuple(UNKNOWN_PLACES),
-        4 => tuple(0),
-        5 => tuple(1),
-        6 => tuple(2),
-        _ => array(),
+        3 => shapes::composite_value(composite::TUPLE, 32, None),
+        4 => tuple(&[]),
+        5 => tuple(&[0]),
+        6 => tuple(&[0, 16]),
+        _ => shapes::composite_value(composite::ARRAY, 32, Some(Places::new())),
     }
 }
 
@@ -61,250 +39,187 @@ fn next(x: u64) -> u64 {
 }
 
 // How the second state differs from the first: wherever chance has it, nowhere, in one slot, or in that slot from unknown.
-const ANYWHERE: u64 = 0;
-
-const NOWHERE: u64 = 1;
-
-const FROM_UNKNOWN: u64 = 3;
+#[derive(Clone, Copy)]
+enum Way {
+    Anywhere,
+    Nowhere,
+    InOne,
+    FromUnknown,
+}
 
 // The slot in which states differ that differ in one: the first local.
-const ONE: usize = 64;
+const ONE: usize = OPERANDS;
 
-// The number of the value in slot i of the first state, and of the second.
-fn first_number(way: u64, i: usize, x: u64) -> u64 {
-    if way == FROM_UNKNOWN {
-        if i == ONE {
-            return 0;
+impl Way {
+    // The numbers of the values in slot i of the first state, and of the second.
+    fn numbers(self, i: usize, x: u64) -> (u64, u64) {
+        match self {
+            Way::Anywhere => (x, x / 8),
+            Way::InOne if i == ONE => (x, x % 8 + 1),
+            Way::FromUnknown if i == ONE => (0, x % 8 + 1),
+            _ => (x, x),
         }
     }
-    x
 }
 
-fn second_number(way: u64, i: usize, x: u64) -> u64 {
-    if way == ANYWHERE {
-        return x / 8;
-    }
-    if way == NOWHERE {
-        return x;
-    }
-    if i == ONE {
-        return x % 8 + 1;
-    }
-    x
-}
-
-// Of each pair of states the first, or the second.
-fn state_of(seed: u64, way: u64, is_second: bool, height: usize) -> State
-    ensures { result.height ≡ height }
+// A pair of states of these heights.
+fn frames(seed: u64, way: Way, heights: (usize, usize)) -> (Frame, Frame)
+    requires low { (heights.0 ≤ OPERANDS) × (heights.1 ≤ OPERANDS) }
+    ensures first { result.0.state.height ≡ heights.0 }
+    ensures second { result.1.state.height ≡ heights.1 }
 {
-    let mut slots = [0u64; 96];
-    let mut places = [0u32; 1536];
+    let mut first = Frame::new();
+    let mut second = first;
     let mut x = seed;
-    let mut i = 0;
-    while i < 96 {
+    for i in 0..OPERANDS + LOCALS {
         x = next(x);
-        let v = if is_second {
-            value_of(second_number(way, i, x))
-        } else {
-            value_of(first_number(way, i, x))
-        };
-        frame::write(&mut slots, &mut places, i, v);
-        i += 1;
+        let (a, b) = way.numbers(i, x);
+        first.state.write(i, value_of(a));
+        second.state.write(i, value_of(b));
     }
-    State {
-        height: height,
-        slots: slots,
-        places: places,
-    }
-}
-
-fn value_in(s: State, i: usize) -> Value
-    requires { i < 96 }
-{
-    let slots = s.slots;
-    let places = s.places;
-    frame::value_at(&slots, &places, i)
+    first.state.height = heights.0;
+    second.state.height = heights.1;
+    (first, second)
 }
 
 // ---- the three ways
 
 // The join as the walk makes it, in place.
-fn join_lent(a: State, b: State, height: usize, locals: usize) -> State
-    requires { (height ≤ 64) × (locals ≤ 32) }
+fn join_lent(a: &Frame, b: &Frame, locals: usize) -> State
+    requires one_height { a.now.state.height ≡ b.now.state.height }
+    requires locals { locals ≤ LOCALS }
 {
-    let mut slots = a.slots;
-    let mut places = a.places;
-    let others = b.slots;
-    let held = b.places;
-    frame::join(&mut slots, &mut places, &others, &held, height, locals);
-    State {
-        height: height,
-        slots: slots,
-        places: places,
-    }
+    let mut joined = *a;
+    joined.join_with(b, locals);
+    joined.state
 }
 
-// Whether the locals of the first cover those of the second, as the walk asks.
-fn covers_locals(a: State, b: State, locals: usize) -> bool
-    requires { locals ≤ 32 }
+// Whether a state is the join of two in each of these slots.
+fn is_join_in(a: &State, b: &State, joined: &State, mut slots: Range<usize>) -> bool
+    requires { slots.end ≤ OPERANDS + LOCALS }
 {
-    let slots = a.slots;
-    let places = a.places;
-    let others = b.slots;
-    let held = b.places;
-    frame::covers_locals(&slots, &places, &others, &held, locals)
+    slots.all(|i| a.value_at(i).join(b.value_at(i)).same(joined.value_at(i)))
 }
 
-// What is asked of the values of two states and of their join in one slot.
-const IS_JOIN: u64 = 0;
-
-const IS_CHANGED: u64 = 1;
-
-const IS_COVERED: u64 = 2;
-
-fn holds(asked: u64, x: Value, y: Value, joined: Value) -> bool {
-    match asked {
-        IS_JOIN => {
-            let z = x.join(y);
-            z.same(joined)
-        }
-        IS_CHANGED => {
-            let is_same = x.same(joined);
-            !is_same
-        }
-        IS_COVERED => x.covers(y),
-        _ => false,
-    }
+// Whether a state covers another in each of these slots.
+fn is_covered_in(a: &State, b: &State, mut slots: Range<usize>) -> bool
+    requires { slots.end ≤ OPERANDS + LOCALS }
+{
+    slots.all(|i| a.value_at(i).covers(b.value_at(i)))
 }
 
-// In how many of the slots from lo up to hi it holds.
-fn count(asked: u64, a: State, b: State, joined: State, lo: usize, hi: usize) -> usize
-    requires { (lo ≤ hi) × (hi ≤ 96) }
+// In how many of these slots two states differ.
+fn changed_in(a: &State, b: &State, slots: Range<usize>) -> usize
+    requires { slots.end ≤ OPERANDS + LOCALS }
 {
-    let mut n = 0;
-    let mut i = lo;
-    while i < hi {
-        let x = value_in(a, i);
-        let y = value_in(b, i);
-        let v = value_in(joined, i);
-        i += 1;
-        if holds(asked, x, y, v) {
-            n += 1;
-        }
-    }
-    n
+    slots
+        .filter(|&i| !a.value_at(i).same(b.value_at(i)))
+        .count()
 }
 
-// Whether it holds of all operands and of all locals.
-fn all(asked: u64, a: State, b: State, joined: State, height: usize, locals: usize) -> bool
-    requires { (height ≤ 64) × (locals ≤ 32) }
+// Whether a state is the join of two value by value.
+fn is_join(a: &Frame, b: &Frame, joined: &State, locals: usize) -> bool
+    requires { locals ≤ LOCALS }
 {
-    if count(asked, a, b, joined, 0, height) != height {
-        return false;
-    }
-    count(asked, a, b, joined, 64, 64 + locals) == locals
+    is_join_in(&a.state, &b.state, joined, 0..a.state.height)
+        && is_join_in(&a.state, &b.state, joined, OPERANDS..OPERANDS + locals)
 }
 
 // Whether both joins are the join value by value.
-fn joins_agree(a: State, b: State, height: usize, locals: usize) -> bool
-    requires { (height ≤ 64) × (locals ≤ 32) × (a.height ≡ height) × (b.height ≡ height) }
+fn joins_agree(a: &Frame, b: &Frame, locals: usize) -> bool
+    requires one_height { a.now.state.height ≡ b.now.state.height }
+    requires locals { locals ≤ LOCALS }
 {
-    let plain = a.join(b, locals);
-    let lent = join_lent(a, b, height, locals);
-    if all(IS_JOIN, a, b, plain, height, locals) {
-        return all(IS_JOIN, a, b, lent, height, locals);
-    }
-    false
+    is_join(a, b, &a.state.join(b.state, locals), locals)
+        && is_join(a, b, &join_lent(a, b, locals), locals)
 }
 
 // Whether both covers are the cover value by value.
-fn covers_agree(a: State, b: State, height: usize, locals: usize) -> bool
-    requires { (height ≤ 64) × (locals ≤ 32) × (a.height ≡ height) }
+fn covers_agree(a: &Frame, b: &Frame, locals: usize) -> bool
+    requires { locals ≤ LOCALS }
 {
-    if covers_locals(a, b, locals) != all(IS_COVERED, a, b, a, 0, locals) {
-        return false;
-    }
-    a.covers(b, locals) == all(IS_COVERED, a, b, a, height, locals)
+    let (a, b, height) = (&a.state, &b.state, a.state.height);
+    let are_covered = is_covered_in(a, b, OPERANDS..OPERANDS + locals);
+    a.covers_locals(b, locals) == are_covered
+        && a.covers(*b, locals) == (is_covered_in(a, b, 0..height) && are_covered)
 }
 
 // ---- the cases
 
-fn show(rt: &impl Print, seed: u64, way: u64, height: usize, locals: usize) -> io::Result<()>
-    requires { (height ≤ 64) × (locals ≤ 32) }
+fn show(rt: &impl Print, seed: u64, way: Way, height: usize, locals: usize) -> io::Result<()>
+    requires height { height ≤ OPERANDS }
+    requires locals { locals ≤ LOCALS }
 {
-    let a = state_of(seed, way, false, height);
-    let b = state_of(seed, way, true, height);
-    let joined = join_lent(a, b, height, locals);
-    print_number(rt, b"operands ", height)?;
-    print_number(rt, b" locals ", locals)?;
-    print_number(
-        rt,
-        b": changed ",
-        count(IS_CHANGED, a, b, joined, 0, height),
+    let (a, b) = frames(seed, way, (height, height));
+    let joined = join_lent(&a, &b, locals);
+    let operands_changed = changed_in(&a.state, &joined, 0..height);
+    let locals_changed = changed_in(&a.state, &joined, OPERANDS..OPERANDS + locals);
+    let covered = if a.state.covers(b.state, locals) {
+        "covered"
+    } else {
+        "not covered"
+    };
+    let joins = if joins_agree(&a, &b, locals) {
+        "joins agree"
+    } else {
+        "JOINS DIFFER"
+    };
+    let covers = if covers_agree(&a, &b, locals) {
+        "covers agree"
+    } else {
+        "COVERS DIFFER"
+    };
+    print!(rt;
+        "operands {height} locals {locals}: changed {operands_changed} and {locals_changed}"
     )?;
-    print_number(
-        rt,
-        b" and ",
-        count(IS_CHANGED, a, b, joined, 64, 64 + locals),
-    )?;
-    if a.covers(b, locals) {
-        print(rt, b", covered")?;
-    } else {
-        print(rt, b", not covered")?;
-    }
-    if joins_agree(a, b, height, locals) {
-        print(rt, b", joins agree")?;
-    } else {
-        print(rt, b", JOINS DIFFER")?;
-    }
-    if covers_agree(a, b, height, locals) {
-        print(rt, b", covers agree\n")
-    } else {
-        print(rt, b", COVERS DIFFER\n")
+    println!(rt; ", {covered}, {joins}, {covers}")
+}
+
+fn way_of(n: u64) -> Way {
+    match n / 16 {
+        0 => Way::Anywhere,
+        1 => Way::Nowhere,
+        2 => Way::InOne,
+        _ => Way::FromUnknown,
     }
 }
 
 fn height_of(n: u64) -> usize
-    ensures { result ≤ 64 }
+    ensures { result ≤ OPERANDS }
 {
     match n % 4 {
         0 => 0,
         1 => 1,
         2 => 9,
-        _ => 64,
+        _ => OPERANDS,
     }
 }
 
 fn locals_of(n: u64) -> usize
-    ensures { result ≤ 32 }
+    ensures { result ≤ LOCALS }
 {
     match n / 4 % 4 {
         0 => 0,
         1 => 1,
         2 => 7,
-        _ => 32,
+        _ => LOCALS,
     }
-}
-
-fn show_pairs(rt: &impl Print) -> io::Result<()> {
-    for n in 0..64u64 {
-        show(rt, n + 1, n / 16, height_of(n), locals_of(n))?;
-    }
-    Ok(())
 }
 
 // States of different heights never cover each other.
 fn show_heights(rt: &impl Print) -> io::Result<()> {
-    let low = state_of(1, NOWHERE, false, 2);
-    let high = state_of(1, NOWHERE, false, 3);
-    if low.covers(high, 0) {
-        print(rt, b"operands 2 and 3: COVERED\n")
+    let (low, high) = frames(1, Way::Nowhere, (2, 3));
+    let covered = if low.state.covers(high.state, 0) {
+        "COVERED"
     } else {
-        print(rt, b"operands 2 and 3: not covered\n")
-    }
+        "not covered"
+    };
+    println!(rt; "operands 2 and 3: {covered}")
 }
 
 fn main(rt: HostRuntime) -> io::Result<()> {
-    show_pairs(&rt)?;
+    for n in 0..64 {
+        show(&rt, n + 1, way_of(n), height_of(n), locals_of(n))?;
+    }
     show_heights(&rt)
 }

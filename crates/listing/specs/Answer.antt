@@ -1,5 +1,5 @@
 -- The answer of reading: 01's number and values for each case, and what the tables then mean.
-use Rattle.std.specs.Prelude.{◌≡◌, true, List, ℕ, length}
+use Rattle.std.specs.Prelude.{◌≡◌, true, List, ℕ, length, Result as Outcome, Ok, Err}
 use Rattle.std.proofs.Common.{sym, ap, ◌∙◌}
 use Rattle.definition.specs.Basics.{Result, ok, refused}
 use Rattle.definition.specs.Format.{Bytes}
@@ -12,13 +12,12 @@ use Rattle.bytecode.specs.Exact.{is_exact, held_exact}
 use Rattle.bytecode.specs.Bridge.{module_is, chunks_are, chunk_count, op_total}
 use Rattle.listing.specs.Reads.{ReadIs}
 use Rattle.listing.specs.Fitting.{read_fits}
-use Rattle.std.specs.Prelude.{Result as Outcome, Ok, Err}
-use Rattle.answer.specs.declared.Refusal.{Refusal}
 use Rattle.answer.specs.Answer.{numbers}
+use Rattle.answer.specs.declared.Refusal.{Refusal}
 
--- "1 with the count of lines before it"; "2 carries ip (0 if none) and limit"; "All these carry chunk 0." A module that is read stands in the tables u.
+-- A refusal with its number and values, and chunk 0; a module that is read stands in the tables u.
 unfoldable pub result_of : Outcome Unit Refusal → List ℕ → Result Module
-result_of (Ok done) u = ok (module_of u)
+result_of (Ok _) u = ok (module_of u)
 result_of (Err r) u = refused (numbers 0 r)
 
 -- The tables' chunks are those of the module that they mean, and so are the counts; they say it exactly.
@@ -33,12 +32,12 @@ pub record StandsIn (u : List ℕ) : Type 0 where
   pub exact : is_exact u ≡ true
 
 unfoldable pub LeftIn : Outcome Unit Refusal → List ℕ → Type 0
-LeftIn (Ok done) u = StandsIn u
+LeftIn (Ok _) u = StandsIn u
 LeftIn (Err r) u = Unit {0}
 
 pub answered : (s : Bytes) (r : Outcome Unit Refusal) (u : List ℕ) → ReadIs (read s) r u → (read s ≡ result_of r u) × LeftIn r u
 unfolding ReadIs result_of LeftIn
-answered s (Ok done) u x =
+answered s (Ok _) u x =
     let fit : ModuleFits x.0.so_far = read_fits s x.0.so_far x.1 in
     let e : module_of u ≡ x.0.so_far = module_is u x.0 x.3 fit x.2 in (
       x.1 ∙ ap ok (sym e),

@@ -1,116 +1,132 @@
 -- The form that takes a line whole, and what the line then says.
-use Rattle.std.specs.Prelude.{◌≡◌, Bool, ◌&&◌, ℕ, suc, ◌+◌, ◌*◌, ◌≤◌, ◌<◌, eqb, get_or, drop}
-use Rattle.std.proofs.Math.Path.{refl, ap}
-use Rattle.std.proofs.Common.{sym, ◌∙◌, subst, arith, add-one, eqb→eq, drop_of_length-le, drop-cons}
-use Rattle.std.proofs.Math.Bool.{true, false}
+use Rattle.std.specs.Prelude.{◌≡◌, refl, Bool, false, List, [], ◌∷◌, ◌++◌, ℕ, suc, ◌+◌, ◌≤◌, ◌<◌, T, eqb, length, get_or, drop, Option as CodeOption, Some, None}
+use Rattle.std.proofs.Common.{sym, ap, ◌∙◌, subst, arith, add-one, eqb→eq, ne_eqb, drop_of_length-le}
 use Rattle.std.proofs.Math.Option.{Option, none, some}
-use mathlib.Core.List.{List, [], ◌∷◌}
-use Rattle.std.proofs.Math.Dec.{T, leb}
-use Rattle.std.specs.Float.Ieee.Fits.{and_l, and_r}
-use Rattle.std.proofs.Math.ListN.{length}
-use borrow.Author.Tests.{leb-true, leb-false}
-use Rattle.definition.specs.Basics.{choose, is_member}
-use Rattle.definition.specs.Shapes.{same_places}
-use Rattle.definition.specs.Format.{Bytes, whole, shape_at, form, bytes, Form}
+use Rattle.std.specs.Bool.{then_some}
+use Rattle.definition.specs.Format.{Bytes, bytes, form, strip, parse, whole, shape_at, ◌and_then◌, nothing_after, Form as LineForm}
 use Rattle.definition.specs.Read.{Line, line_forms}
+use Rattle.theorems.specs.Keys.{key, keys, apart, apart_from, all_apart, starts, commit}
 use Rattle.bytecode.specs.Tables.{all_below, at_each}
-use Rattle.listing.specs.Scan.{scan, formats, up_to, flat, form_codes, filled, codes, max_code, among_code}
-use Rattle.listing.specs.Forms.{Fits, FormAt, form-at, line_fits, tried_none, tried_more, tried_all}
-use Rattle.listing.specs.Rows.{left, Rowed, Stored}
-use Rattle.listing.specs.declared.Row.{Row}
-use Rattle.listing.specs.declared.Entry.{Entry}
+use Rattle.listing.specs.Scan.{Words, scan, codes, form_codes, no_word, then_words, joined}
+use Rattle.listing.specs.Agree.{ascii, joined_nothing, scan_both, text_scan}
+use Rattle.listing.specs.Forms.{Fits, form_number, FormAt, form-at, line_fits, taken, taken_none, taken_more, taken_all}
+use Rattle.listing.specs.declared.form.Form.TheVariants as F
+use Rattle.listing.specs.Stored.{Stored}
+use Rattle.listing.specs.declared.form.Form.{Form}
+use Rattle.listing.specs.declared.entry.Values.{Values}
+use Rattle.listing.specs.declared.entry.Entry.{Entry}
 
-abbrev pub whole_line : List (Form Line) → Bytes → Option Line
+abbrev pub whole_line : List (LineForm Line) → Bytes → Option Line
 whole_line fs s = whole shape_at fs s
 
--- What an entry says of the line that the definition reads.
-pub record Entered (o : Option Line) (r : Entry) : Type 0 where
-  pub one : r.form < 86 → (l : Line) × (vs : List ℕ) × (o ≡ some l) × Fits l r.form vs × Stored r.vals r.count vs
-  pub nothing : 86 ≤ r.form → o ≡ none
+-- What a form and the values say of the line that the definition reads.
+abbrev pub Formed : Option Line → CodeOption Form → Values → Type 0
+Formed o None v = o ≡ none
+Formed o (Some f) v = (l : Line) × (vs : List ℕ) × (o ≡ some l) × (form_number f < 86) × Fits l (form_number f) vs × Stored v vs
 
-pub entered_none : (o : Option Line) (r : Entry) → r.form ≡ 86 → o ≡ none → Entered o r
-entered_none o r e f = record { one = λ h. absurd (omega arith); nothing = λ h. f }
+-- What an entry says of it.
+abbrev pub Entered : Option Line → CodeOption Entry → Type 0
+Entered o None = o ≡ none
+Entered o (Some e) = (l : Line) × (vs : List ℕ) × (o ≡ some l) × Fits l (form_number e.form) vs × Stored e.values vs
 
-pub entered_one : (o : Option Line) (r : Entry) (l : Line) (vs : List ℕ) → r.form < 86 → o ≡ some l → Fits l r.form vs → Stored r.vals r.count vs → Entered o r
-entered_one o r l vs h e f st = record { one = λ x. (l, vs, e, f, st); nothing = λ x. absurd (omega arith) }
+-- ── A form for a line that is taken whole ─────────────────────────────────────────────────
+
+pub formed_none : (o : Option Line) (q : CodeOption Form) (v : Values) → q ≡ None → o ≡ none → Formed o q v
+formed_none o None v e n = n
+formed_none o (Some f) v e n = absurd (let z : ◌≡◌ {A = ℕ} 0 1 = cc in omega arith)
+
+pub formed_then : (o u : Option Line) (q : CodeOption Form) (f : Form) (v : Values) (b d : Bool) → q ≡ then_some b f → b ≡ d → o ≡ u
+    → Formed u (then_some d f) v → Formed o q v
+formed_then o u q f v b d e g h x =
+    subst (λ (y : CodeOption Form). Formed o y v) (ap (λ (k : Bool). then_some k f) (sym g) ∙ sym e)
+    (subst (λ (y : Option Line). Formed y (then_some d f) v) (sym h) x)
 
 -- ── Lines that are no ops ─────────────────────────────────────────────────────────────────
 
-same_list : (xs ys : List ℕ) → T (same_places xs ys) → xs ≡ ys
-unfolding same_places
-same_list [] [] t = refl
-same_list [] (y ∷ ys) t = absurd t
-same_list (x ∷ xs) [] t = absurd t
-same_list (x ∷ xs) (y ∷ ys) t =
-    let e : x ≡ y = eqb→eq x y (and_l (eqb x y) (same_places xs ys) t) in
-    let r : xs ≡ ys = same_list xs ys (and_r (eqb x y) (same_places xs ys) t) in
-    cc
+abbrev pub lines : List Form
+lines = F.Module ∷ F.SharedSlot ∷ F.PrivateSlot ∷ F.Shared ∷ F.Private ∷ F.Enum ∷ F.Native ∷ F.Signature ∷ F.Chunk ∷ F.Constant ∷ F.Close ∷ []
 
-at-form : ℕ → Bool
-at-form f = same_places (up_to (drop (f * 16) formats)) (get_or (form_codes line_forms) f [])
-
-all_forms : T (all_below 11 at-form)
-unfolding all_below at-form same_places up_to formats flat form_codes filled codes max_code among_code line_forms form bytes choose is_member
-all_forms = tt
-
--- the codes of a form
-pub form_coded : (f : ℕ) → f < 11 → up_to (drop (f * 16) formats) ≡ get_or (form_codes line_forms) f []
-unfolding at-form
-form_coded f h = same_list _ _ (at_each 11 at-form all_forms f h)
+number_at : (i : ℕ) → i < 11 → form_number (get_or lines i F.Module) ≡ i
+unfolding all_below
+number_at i h = eqb→eq _ i (at_each 11 (λ k. eqb (form_number (get_or lines k F.Module)) k) tt i h)
 
 forms_long : length line_forms ≡ 11
 unfolding line_forms
 forms_long = refl
 
+lines_apart : T (all_apart (keys line_forms))
+unfolding all_apart apart_from apart keys key line_forms form bytes
+lines_apart = tt
+
+keys_ascii : (i : ℕ) → i < 11 → T (ascii (get_or (keys line_forms) i []))
+unfolding all_below ascii keys key line_forms form bytes
+keys_ascii i h = at_each 11 (λ k. ascii (get_or (keys line_forms) k [])) tt i h
+
 module _ (s : Bytes) where
-  -- what the forms from number f on read
+  -- what the forms from number i on read
   pub left_forms : ℕ → Option Line
-  left_forms f = whole_line (drop f line_forms) s
+  left_forms i = whole_line (drop i line_forms) s
 
   pub forms_start : whole_line line_forms s ≡ left_forms 0
   unfolding left_forms
   forms_start = refl
 
-  pub forms_end : (f : ℕ) → 11 ≤ f → left_forms f ≡ none
+  pub forms_end : (i : ℕ) → 11 ≤ i → left_forms i ≡ none
   unfolding left_forms whole
-  forms_end f h = ap (λ (fs : List (Form Line)). whole_line fs s) (drop_of_length-le line_forms {i = f} (omega (arith, forms_long)))
+  forms_end i h = ap (λ (fs : List (LineForm Line)). whole_line fs s) (drop_of_length-le line_forms {i = i} (omega (arith, forms_long)))
 
-  module _ (f : ℕ) (h : f < 11) where
-    at : FormAt f f line_forms
-    at = form-at 0 f f line_forms (omega arith) line_fits (omega (arith, forms_long))
+  module _ (i : ℕ) (h : i < 11) (text : Bytes) (k : text ≡ get_or (keys line_forms) (form_number (get_or lines i F.Module)) []) where
+    at : FormAt i i line_forms
+    at = form-at 0 i i line_forms (omega arith) line_fits lines_apart (omega (arith, forms_long))
 
-    by_codes : left s 0 (f * 16) ≡ scan (codes at.this.items) s
-    unfolding left
-    by_codes = ap (λ (cs : List ℕ). scan cs s) (form_coded f h ∙ at.coded)
+    text_is : text ≡ key at.this.items
+    text_is = k ∙ ap (λ (j : ℕ). get_or (keys line_forms) j []) (number_at i h) ∙ at.keyed
 
-    module _ (r : Row) (w : Rowed (left s 0 (f * 16)) s [] r) where
-      on : left_forms f ≡ left_forms (suc f) → left_forms f ≡ left_forms (f + 1)
-      on e = rw add-one e
+    pub passed : strip text s ≡ none → left_forms i ≡ left_forms (i + 1)
+    unfolding left_forms whole ◌and_then◌
+    passed e =
+        ap (λ (fs : List (LineForm Line)). whole_line fs s) at.here
+        ∙ over (parse shape_at at.this.items at.this.make s) refl
+        ∙ ap left_forms (sym (add-one i))
+      where
+        over : (o : Option (Line × Bytes)) → parse shape_at at.this.items at.this.make s ≡ o
+            → ◌≡◌ {A = Option Line} (elim (o and_then nothing_after) [ some a ↦ some a | none ↦ left_forms (suc i) ]) (left_forms (suc i))
+        over none q = refl
+        over (some r) q = absurd (let z : ◌≡◌ {A = ℕ} 0 1 = (let w : none ≡ some (starts shape_at at.this.items at.this.make s r q).0 = sym e ∙ ap (λ (x : Bytes). strip x s) text_is ∙ (starts shape_at at.this.items at.this.make s r q).1 in cc) in omega arith)
 
-      pub form_passed : (b : Bool) → (r.ok && leb (length s) r.next) ≡ b → b ≡ false → left_forms f ≡ left_forms (f + 1)
-      unfolding left_forms
-      form_passed b e q = go r.ok refl (e ∙ q)
+    module _ (rest cs : Bytes) (e : strip text s ≡ some rest)
+        (c : get_or (keys line_forms) (form_number (get_or lines i F.Module)) [] ++ cs ≡ get_or (form_codes line_forms) (form_number (get_or lines i F.Module)) []) where
+      chosen : left_forms i ≡ taken s i line_forms at
+      unfolding left_forms taken apart_from keys
+      chosen =
+          ap (λ (fs : List (LineForm Line)). whole_line fs s) at.here
+          ∙ commit shape_at s rest [] (drop (suc i) line_forms) at.this (sym (ap (λ (x : Bytes). strip x s) text_is) ∙ e) tt at.apart
+
+      scanned : scan (codes at.this.items) s ≡ scan cs rest
+      unfolding no_word then_words joined ◌and_then◌
+      scanned =
+          ap (λ (x : List ℕ). scan x s) (sym at.coded ∙ ap (λ (j : ℕ). get_or (form_codes line_forms) j []) (sym (number_at i h)) ∙ sym c ∙ ap (λ (x : Bytes). x ++ cs) (sym k))
+          ∙ scan_both text cs s
+          ∙ ap (λ (x : Words). then_words x (scan cs)) (text_scan text s front ∙ ap no_word e)
+          ∙ joined_nothing (scan cs rest)
         where
-          go : (x : Bool) → r.ok ≡ x → (x && leb (length s) r.next) ≡ false → left_forms f ≡ left_forms (f + 1)
-          go false o p = on (tried_none s f line_forms at (sym by_codes ∙ w.bad o))
-          go true o p =
-              let l : r.next < length s = leb-false (length s) r.next p in
-              let g = w.good o in
-              on
-              (tried_more s f line_forms at g.0 (get_or s r.next 0) (drop (suc r.next) s)
-              (sym by_codes ∙ g.1 ∙ ap (λ (x : Bytes). some (g.0, x)) (drop-cons s r.next 0 l)))
+          front : T (ascii text)
+          front = subst (λ (x : Bytes). T (ascii x)) (sym (k ∙ ap (λ (j : ℕ). get_or (keys line_forms) j []) (number_at i h))) (keys_ascii i h)
 
-      pub form_taken : (b : Bool) → (r.ok && leb (length s) r.next) ≡ b → b ≡ true
-          → (l : Line) × (vs : List ℕ) × (left_forms f ≡ some l) × Fits l f vs × Stored r.vals r.count vs
-      unfolding left_forms
-      form_taken b e q = go r.ok refl (e ∙ q)
-        where
-          go : (x : Bool) → r.ok ≡ x → (x && leb (length s) r.next) ≡ true
-              → (l : Line) × (vs : List ℕ) × (left_forms f ≡ some l) × Fits l f vs × Stored r.vals r.count vs
-          go false o p = absurd (subst T (sym p) tt)
-          go true o p =
-              let g = w.good o in
-              let d : left s 0 (f * 16) ≡ some (g.0, []) =
-              g.1 ∙ ap (λ (x : Bytes). some (g.0, x)) (drop_of_length-le s {i = r.next} (leb-true (length s) r.next p)) in
-              let t = tried_all s f line_forms at g.0 (sym by_codes ∙ d) in
-              (t.0, g.0, t.1, t.2, g.2)
+      pub chosen_none : scan cs rest ≡ none → left_forms i ≡ none
+      chosen_none x = chosen ∙ taken_none s i line_forms at (scanned ∙ x)
+
+      module _ (ws : List ℕ) (x : Bytes) (y : scan cs rest ≡ some (ws, x)) where
+        module _ (v : Values) (st : Stored v ws) where
+          pub chosen_formed : Formed (left_forms i) (then_some (eqb (length x) 0) (get_or lines i F.Module)) v
+          chosen_formed = go x y
+            where
+              go : (z : Bytes) → scan cs rest ≡ some (ws, z) → Formed (left_forms i) (then_some (eqb (length z) 0) (get_or lines i F.Module)) v
+              go [] q =
+                  let t = taken_all s i line_forms at ws (scanned ∙ q) in
+                  (t.0, ws, chosen ∙ t.1, omega (arith, number_at i h), subst (λ (j : ℕ). Fits t.0 j ws) (sym (number_at i h)) t.2, st)
+              go (b ∷ z) q =
+                  formed_then _ _ _ _ v _ false refl (ne_eqb (length (b ∷ z)) 0 (λ e. absurd (omega arith)))
+                  (chosen ∙ taken_more s i line_forms at ws b z (scanned ∙ q)) refl
+
+pub ruleset line_laws = (forms_start, passed, forms_end, chosen_none, formed_none)

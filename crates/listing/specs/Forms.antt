@@ -1,6 +1,6 @@
 -- What a form's number and the words read by it say of the line: its table, its row, where it may stand, which limits it meets.
 use Rattle.std.proofs.Math.Path.{◌≡◌, sym, ap, subst}
-use Rattle.std.specs.Prelude.{refl, Bool, true, false, not, ◌&&◌, leb, ltb, eqb, get_or, drop}
+use Rattle.std.specs.Prelude.{refl, T, Bool, true, false, not, ◌&&◌, leb, ltb, eqb, get_or, drop}
 use Rattle.std.proofs.Common.{◌∙◌}
 use Rattle.std.proofs.Math.Option.{Option, none, some}
 use Rattle.std.proofs.Math.Logic.{⊎_elim}
@@ -8,15 +8,17 @@ use mathlib.Core.List.{List, [], ◌∷◌, ◌++◌, map, append-nil}
 use Prim.Native.Nat.{ℕ, zero, suc, ◌+◌, ◌-◌, ◌≤◌, ◌<◌}
 use native.Mathlib.Omega.{arith}
 use Rattle.std.proofs.Math.Dec.{leb-suc-suc}
+use Rattle.std.specs.Float.Ieee.Fits.{and_l, and_r}
 use Rattle.definition.specs.Shapes.{Wire}
 use Rattle.std.proofs.Math.ListN.{length, get_elem?, get_or-eq_default}
 use borrow.Author.Tests.{le-leb, ne_eqb}
 use Rattle.definition.specs.Basics.{choose, is_member, unless, first}
-use Rattle.definition.specs.Format.{Bytes, bytes, Form, form, parse, shape_at}
-use Rattle.definition.specs.Format.{◌and_then◌, nothing_after, whole, provided}
+use Rattle.definition.specs.Format.{Bytes, bytes, Form as LineForm, form, parse, shape_at}
+use Rattle.definition.specs.Format.{◌and_then◌, nothing_after, provided}
 use Rattle.definition.specs.Ops.{ops, Op, instr, named_kind, has_kind}
 use Rattle.definition.specs.Module.{Header, Module, all_consts, all_ops}
 use Rattle.definition.specs.Read.{Line, op_line, line_forms, within, follow, limits, has_room}
+use Rattle.theorems.specs.Keys.{key, keys, apart_from, all_apart}
 use Rattle.theorems.specs.KindOf.{has_kinds, kinds_by_maxima}
 use Rattle.theorems.specs.Rendered.{Values, at_values}
 use Rattle.bytecode.specs.Tables.{cap}
@@ -25,7 +27,40 @@ use Rattle.bytecode.specs.Operands.{row_of}
 use Rattle.bytecode.specs.Held.{wire_word, kind, words, length-map, header_words, slot_words, shared_words, private_words, one_word, native_words}
 use Rattle.bytecode.specs.Held.{sig_words, chunk_words, op_words}
 use Rattle.listing.specs.Scan.{among_code, codes, admitted, item, scan, form_codes}
+use Rattle.listing.specs.declared.form.Form.{Form}
+use Rattle.listing.specs.declared.form.Form.TheVariants as F
+use Rattle.listing.specs.declared.place.Place.{Place}
+use Rattle.listing.specs.declared.place.Place.TheVariants as P
 use Rattle.listing.specs.Agree.{as_words, ascii, known_max, Known, Agree, agree}
+
+-- ── Numbers of forms and places ───────────────────────────────────────────────────────────
+
+abbrev pub form_number : Form → ℕ
+form_number F.Module = 0
+form_number F.SharedSlot = 1
+form_number F.PrivateSlot = 2
+form_number F.Shared = 3
+form_number F.Private = 4
+form_number F.Enum = 5
+form_number F.Native = 6
+form_number F.Signature = 7
+form_number F.Chunk = 8
+form_number F.Constant = 9
+form_number F.Close = 10
+form_number (F.Op row) = 11 + row
+
+abbrev pub place_number : Place → ℕ
+place_number P.Start = 0
+place_number P.Slots = 1
+place_number P.Shared = 2
+place_number P.Private = 3
+place_number P.Enums = 4
+place_number P.Natives = 5
+place_number P.Signatures = 6
+place_number P.Chunks = 7
+place_number P.Constants = 8
+place_number P.Instructions = 9
+place_number P.End = 10
 
 -- ── What is read off a form's number ──────────────────────────────────────────────────────
 
@@ -96,11 +131,11 @@ pub record Fits (l : Line) (f : ℕ) (vs : List ℕ) : Type 0 where
 
 -- ── Every form ────────────────────────────────────────────────────────────────────────────
 
-pub record Right (f : ℕ) (fm : Form Line) : Type 0 where
+pub record Right (f : ℕ) (fm : LineForm Line) : Type 0 where
   pub known : Known fm.items
   pub fits : (v : Values fm.items) → Fits (at_values fm.items fm.make v) f (as_words fm.items v)
 
-abbrev pub AllRight : ℕ → List (Form Line) → Type 0
+abbrev pub AllRight : ℕ → List (LineForm Line) → Type 0
 AllRight n [] = Unit {0}
 AllRight n (f ∷ fs) = Right n f × AllRight (suc n) fs
 
@@ -195,36 +230,37 @@ module _ (f n : ℕ) (e : f ≡ 11 + n) (low : n < 75) (o : Op) (c : o.code ≡ 
 
 -- ── One form of the list ──────────────────────────────────────────────────────────────────
 
-pub record FormAt (n k : ℕ) (fs : List (Form Line)) : Type 0 where
-  pub this : Form Line
+pub record FormAt (n k : ℕ) (fs : List (LineForm Line)) : Type 0 where
+  pub this : LineForm Line
   pub here : drop k fs ≡ this ∷ drop (suc k) fs
   pub right : Right n this
   pub coded : get_or (form_codes fs) k [] ≡ codes this.items
+  pub keyed : get_or (keys fs) k [] ≡ key this.items
+  pub apart : T (apart_from (key this.items) (keys (drop (suc k) fs)))
 
-pub form-at : (n k m : ℕ) (fs : List (Form Line)) → m ≡ n + k → AllRight n fs → k < length fs → FormAt m k fs
-unfolding form_codes
-form-at n k m [] e a h = absurd (omega arith)
-form-at n zero m (f ∷ fs) e a h =
+pub form-at : (n k m : ℕ) (fs : List (LineForm Line)) → m ≡ n + k → AllRight n fs → T (all_apart (keys fs)) → k < length fs → FormAt m k fs
+unfolding form_codes keys all_apart
+form-at n k m [] e a t h = absurd (omega arith)
+form-at n zero m (f ∷ fs) e a t h =
     let d : n ≡ m = omega arith in
-    record { this = f; here = refl; right = subst (λ (i : ℕ). Right i f) d a.0; coded = refl }
-form-at n (suc k) m (f ∷ fs) e a h =
-    let r = form-at (suc n) k m fs (omega arith) a.1 (omega arith) in
-    record { this = r.this; here = r.here; right = r.right; coded = r.coded }
+    record {
+      this = f;
+      here = refl;
+      right = subst (λ (i : ℕ). Right i f) d a.0;
+      coded = refl;
+      keyed = refl;
+      apart = and_l (apart_from (key f.items) (keys fs)) (all_apart (keys fs)) t;
+    }
+form-at n (suc k) m (f ∷ fs) e a t h =
+    let r = form-at (suc n) k m fs (omega arith) a.1 (and_r (apart_from (key f.items) (keys fs)) (all_apart (keys fs)) t) (omega arith) in
+    record { this = r.this; here = r.here; right = r.right; coded = r.coded; keyed = r.keyed; apart = r.apart }
 
--- ── Trying a form ─────────────────────────────────────────────────────────────────────────
+-- ── Reading by a form ─────────────────────────────────────────────────────────────────────
 
 no_some : {A : Type 0} {x : A} → none ≡ some x → ⊥
 no_some e = let z : ◌≡◌ {A = ℕ} 0 1 = cc in omega arith
 
-by_first : (o x : Option Line) → o ≡ none → ◌≡◌ {A = Option Line} (elim o [ some a ↦ some a | none ↦ x ]) x
-by_first none x e = refl
-by_first (some a) x e = absurd (no_some (sym e))
-
-at_first : (o x : Option Line) (l : Line) → o ≡ some l → ◌≡◌ {A = Option Line} (elim o [ some a ↦ some a | none ↦ x ]) (some l)
-at_first none x l e = absurd (no_some e)
-at_first (some a) x l e = e
-
-module _ (bs : Bytes) (k : ℕ) (fs : List (Form Line)) (en : FormAt k k fs) where
+module _ (bs : Bytes) (k : ℕ) (fs : List (LineForm Line)) (en : FormAt k k fs) where
   outcome : Option (Line × Bytes)
   outcome = parse shape_at en.this.items en.this.make bs
 
@@ -232,31 +268,29 @@ module _ (bs : Bytes) (k : ℕ) (fs : List (Form Line)) (en : FormAt k k fs) whe
   unfolding outcome
   agreed = agree Line en.this.items en.this.make bs en.right.known
 
-  skipped : (outcome and_then nothing_after) ≡ none → whole shape_at (drop k fs) bs ≡ whole shape_at (drop (suc k) fs) bs
-  unfolding outcome whole
-  skipped e = rw en.here (by_first _ _ e)
+  -- the line, if the form takes it whole
+  unfoldable pub taken : Option Line
+  taken = parse shape_at en.this.items en.this.make bs and_then nothing_after
 
-  pub tried_none : scan (codes en.this.items) bs ≡ none → whole shape_at (drop k fs) bs ≡ whole shape_at (drop (suc k) fs) bs
-  unfolding Agree ◌and_then◌
-  tried_none p =
-      ⊎_elim (λ e. skipped (ap (λ (o : Option (Line × Bytes)). o and_then nothing_after) e.0))
+  pub taken_none : scan (codes en.this.items) bs ≡ none → taken ≡ none
+  unfolding taken outcome Agree ◌and_then◌
+  taken_none p =
+      ⊎_elim (λ e. ap (λ (o : Option (Line × Bytes)). o and_then nothing_after) e.0)
       (λ e. absurd (no_some (sym p ∙ e.3))) agreed
 
-  pub tried_more : (vs : List ℕ) (b : ℕ) (rest : Bytes) → scan (codes en.this.items) bs ≡ some (vs, b ∷ rest)
-      → whole shape_at (drop k fs) bs ≡ whole shape_at (drop (suc k) fs) bs
-  unfolding Agree ◌and_then◌ nothing_after
-  tried_more vs b rest p =
+  pub taken_more : (vs : List ℕ) (b : ℕ) (rest : Bytes) → scan (codes en.this.items) bs ≡ some (vs, b ∷ rest) → taken ≡ none
+  unfolding taken outcome Agree ◌and_then◌ nothing_after
+  taken_more vs b rest p =
       ⊎_elim (λ e. absurd (no_some (sym e.1 ∙ p)))
       (λ e.
       let q : ◌≡◌ {A = List ℕ × Bytes} (as_words en.this.items e.0, e.1) (vs, b ∷ rest) = cc in
       let d : e.1 ≡ b ∷ rest = ap (λ (x : List ℕ × Bytes). x.1) q in
-      skipped
-      (ap (λ (o : Option (Line × Bytes)). o and_then nothing_after) e.2
-      ∙ ap (λ (r : Bytes). nothing_after (at_values en.this.items en.this.make e.0, r)) d)) agreed
+      ap (λ (o : Option (Line × Bytes)). o and_then nothing_after) e.2
+      ∙ ap (λ (r : Bytes). nothing_after (at_values en.this.items en.this.make e.0, r)) d) agreed
 
-  pub tried_all : (vs : List ℕ) → scan (codes en.this.items) bs ≡ some (vs, []) → (l : Line) × (whole shape_at (drop k fs) bs ≡ some l) × Fits l k vs
-  unfolding Agree whole ◌and_then◌ nothing_after outcome
-  tried_all vs p =
+  pub taken_all : (vs : List ℕ) → scan (codes en.this.items) bs ≡ some (vs, []) → (l : Line) × (taken ≡ some l) × Fits l k vs
+  unfolding taken outcome Agree ◌and_then◌ nothing_after
+  taken_all vs p =
       ⊎_elim (λ e. absurd (no_some (sym e.1 ∙ p)))
       (λ e.
       let q : ◌≡◌ {A = List ℕ × Bytes} (as_words en.this.items e.0, e.1) (vs, []) = cc in
@@ -264,8 +298,6 @@ module _ (bs : Bytes) (k : ℕ) (fs : List (Form Line)) (en : FormAt k k fs) whe
       let w : as_words en.this.items e.0 ≡ vs = ap (λ (x : List ℕ × Bytes). x.0) q in
       let l : Line = at_values en.this.items en.this.make e.0 in (
         l,
-        rw en.here
-            (at_first _ _ l
-            (ap (λ (o : Option (Line × Bytes)). o and_then nothing_after) e.2 ∙ ap (λ (r : Bytes). nothing_after (l, r)) d)),
+        ap (λ (o : Option (Line × Bytes)). o and_then nothing_after) e.2 ∙ ap (λ (r : Bytes). nothing_after (l, r)) d,
         subst (λ (x : List ℕ). Fits l k x) w (en.right.fits e.0),
       )) agreed

@@ -4,6 +4,7 @@ pub mod Kinds
 pub mod Fitting
 pub mod Forms
 pub mod Num
+pub mod Stored
 pub mod Shape
 pub mod Rows
 pub mod Find

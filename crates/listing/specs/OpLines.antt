@@ -1,7 +1,8 @@
 -- Lines `(op NAME ..)`: the name is cut off before `)` or before a space and a digit, and its row decides the form.
-use Rattle.std.specs.Prelude.{◌≡◌, Bool, true, false, not, ◌&&◌, ◌||◌, ℕ, suc, ◌+◌, ◌<◌, leb, eqb, length, drop}
+use Rattle.std.specs.Prelude.{◌≡◌, Bool, true, false, not, ◌&&◌, ◌||◌, ℕ, suc, ◌+◌, ◌-◌, ◌≤◌, ◌<◌, leb, eqb, length, take, drop}
 use Rattle.std.proofs.Math.Path.{refl, sym, ap}
-use Rattle.std.proofs.Common.{◌∙◌, subst, arith, add-zero, add-suc, suc-add, zero-add, eqb→eq, eqb-true, eq-eqb, ne_eqb}
+use Rattle.std.proofs.lemmas.List.{take_all}
+use Rattle.std.proofs.Common.{◌∙◌, subst, arith, add-one, drop-cons, length-drop, drop_of_length-le, add-zero, add-suc, suc-add, zero-add, eqb→eq, eqb-true, eq-eqb, ne_eqb}
 use Rattle.std.proofs.Math.Option.{Option, none, some}
 use mathlib.Core.List.{List, [], ◌∷◌, ◌++◌, map}
 use Prim.Native.String.{String}
@@ -36,8 +37,36 @@ pub name_more : (b : ℕ) (bs : Bytes) → name_ends (b ∷ bs) ≡ false → na
 unfolding name_of
 name_more b bs e = rw (name_of, e)
 
+-- The same at byte i, for a loop.
+pub name_start : (bs : Bytes) → length (name_of bs) ≡ 0 + length (name_of (drop 0 bs))
+name_start bs = sym (zero-add (length (name_of bs)))
+
+pub name_end : (bs : Bytes) (i : ℕ) → length bs ≤ i → length (name_of (drop i bs)) ≡ 0
+unfolding name_of
+name_end bs i h = ap (λ (r : Bytes). length (name_of r)) (drop_of_length-le bs {i = i} h)
+
+module _ (bs : Bytes) (i : ℕ) (h : i < length bs) where
+  -- the bytes from there on, as the code has them
+  abbrev from : Bytes
+  from = take (length bs - i) (drop i bs)
+
+  from_is : from ≡ drop i bs
+  from_is = take_all (length bs - i) (drop i bs) (omega (arith, length-drop i bs))
+
+  pub name_here : name_ends from ≡ true → length (name_of (drop i bs)) ≡ 0
+  name_here e = ap (λ (r : Bytes). length r) (name_stop (drop i bs) (sym (ap name_ends from_is) ∙ e))
+
+  pub name_on : name_ends from ≡ false → i + length (name_of (drop i bs)) ≡ (i + 1) + length (name_of (drop (i + 1) bs))
+  name_on e =
+      let d : drop i bs ≡ get_or bs i 0 ∷ drop (suc i) bs = drop-cons bs i 0 h in
+      let q : name_of (drop i bs) ≡ get_or bs i 0 ∷ name_of (drop (suc i) bs) =
+      ap name_of d ∙ name_more (get_or bs i 0) (drop (suc i) bs) (sym (ap name_ends (from_is ∙ d)) ∙ e) in
+      omega (arith, ap length q, ap (λ (k : ℕ). length (name_of (drop k bs))) (add-one i))
+
+pub ruleset name_laws = (name_start, name_end, name_here, name_on)
+
 -- a name and what follows it
-name_front : (bs : Bytes) → bs ≡ name_of bs ++ drop (length (name_of bs)) bs
+pub name_front : (bs : Bytes) → bs ≡ name_of bs ++ drop (length (name_of bs)) bs
 unfolding name_of
 name_front [] = refl
 name_front (b ∷ bs) = go (name_ends (b ∷ bs)) (name_front bs)
@@ -310,3 +339,7 @@ both_whole s (f ∷ fs) gs = go (parse shape_at f.items f.make s and_then nothin
         (elim (elim o as (λ _. Option Line) [ some a ↦ some a | none ↦ whole shape_at fs s ]) as (λ _. Option Line) [ some l ↦ some l | none ↦ whole shape_at gs s ])
     go none h = h
     go (some a) h = refl
+
+-- An op's line, from its name on.
+unfoldable pub named_line : Bytes → Option Line
+named_line a = line_of_row (lookup (name_of a)) (drop (length (name_of a)) a)

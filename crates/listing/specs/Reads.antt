@@ -1,124 +1,99 @@
 -- All lines, and what reading a listing gives.
-use Rattle.std.specs.Prelude.{◌≡◌, Bool, ◌&&◌, ◌≢◌, List, [], ◌∷◌, ◌++◌, eqb, length, set, drop}
+use Rattle.std.specs.Prelude.{◌≡◌, Bool, ◌&&◌, ◌⊎◌, List, [], ◌∷◌, ◌++◌, eqb, ltb, length, replicate, drop, Option as CodeOption, Some, None, Result as Outcome, Ok, Err}
 use Rattle.std.proofs.Math.Path.{refl, sym, ap, subst}
-use Rattle.std.proofs.Common.{◌∙◌, ⊎_elim, add-one, le-leb, eq-eqb, ne_eqb, length-set, drop_of_length-le, drop-cons, get_or-drop, get_or-set_same, get_or-set_other, take_all}
+use Rattle.std.proofs.Common.{◌∙◌, inl, inr, add-one, length-append, le-leb, eq-eqb, ne_eqb, length-take-le, le-ltb, lt-ltb, Bor}
+use Rattle.std.proofs.lemmas.List.{take_all}
 use Rattle.std.proofs.Math.Bool.{true, false}
 use Prim.Native.Nat.{ℕ, zero, suc, ◌+◌, ◌-◌, ◌≤◌, ◌<◌}
 use native.Mathlib.Omega.{arith}
-use Rattle.std.proofs.Math.Decide.{dec_lt}
+use Rattle.std.specs.List.{position_or_len}
+use Rattle.std.proofs.Math.Bool.{not, cond}
+use borrow.Rule.Slice.PartMut.{post_of}
+use Rattle.std.proofs.lemmas.List.{get_or-replicate}
 use Rattle.std.proofs.lemmas.Bool.{lt-leb}
-use Rattle.std.proofs.Math.ListN.{get_or, take, length-drop}
-use Rattle.std.proofs.Math.Seq.{take-suc}
+use Rattle.std.proofs.Math.ListN.{get_or, take, length-drop, get_or-append}
 use Rattle.definition.specs.Basics.{Result, ok, refused, ◌>>=◌, unless, pass}
 use Rattle.definition.specs.Format.{Bytes, provided}
 use Rattle.definition.specs.Module.{Module, all_consts, all_ops}
 use Rattle.definition.specs.Read.{Lines, line, end, byte_before, cut, Reader, at_start, or_line, next_line, is_empty, read_lines, read}
-use Rattle.bytecode.specs.Tables.{size, table, rows, eq_or}
+use Rattle.bytecode.specs.Tables.{size, table, rows}
 use Rattle.bytecode.specs.Held.{Held, lists, Sound, header_rows, chunk_rows}
 use Rattle.listing.specs.Step.{StepIs}
-use Rattle.std.specs.Prelude.{Result as Outcome, Ok, Err}
-use Rattle.answer.specs.declared.Refusal.{Refusal}
-use Rattle.answer.specs.declared.Refusal.TheVariants.{CannotFollow, LimitPassed}
-use Rattle.answer.specs.declared.limit.Limit.TheVariants as Limits
+use Rattle.listing.specs.Forms.{place_number}
+use Rattle.listing.specs.declared.place.Place.{Place}
 use Rattle.answer.specs.Answer.{numbers, with_chunk, fields}
-use Rattle.listing.specs.declared.Step.{Step}
-use Rattle.listing.specs.declared.Step.TheVariants.{On, Wrong, Full, Locals}
+use Rattle.answer.specs.declared.Refusal.{Refusal}
+use Rattle.answer.specs.declared.Refusal.TheVariants as R
+use Rattle.answer.specs.declared.limit.Limit.TheVariants as L
 
 -- 01's number and values of a refusal; where a module is read, the tables u hold it.
 unfoldable pub ReadIs : Result Module → Outcome Unit Refusal → List ℕ → Type 0
-ReadIs res (Ok done) u = (q : Reader) × (res ≡ ok q.so_far) × (1 ≤ q.place) × Held u (lists q)
+ReadIs res (Ok _) u = (q : Reader) × (res ≡ ok q.so_far) × (1 ≤ q.place) × Held u (lists q)
 ReadIs res (Err r) u = res ≡ refused (numbers 0 r)
 
 unfoldable pub read_all : Bytes → Result Module
 read_all s = read_lines 0 at_start (cut s)
 
--- The line from `at` on ends at r: before r stands no LF, and at r an LF or nothing.
-pub record LineEnd (s : Bytes) (at r : ℕ) : Type 0 where
-  pub from : at ≤ r
-  pub in_bytes : r ≤ length s
-  pub none_left : length s ≤ r → cut (drop at s) ≡ end (drop at s)
-  pub one_more : r < length s → cut (drop at s) ≡ line (take (r - at) (drop at s)) (cut (drop (r + 1) s))
+-- The first line and what follows it, or that no LF ends it.
+abbrev pub FirstLine : Bytes → CodeOption (Bor Bytes × Bor Bytes) → Type 0
+FirstLine s None = cut s ≡ end s
+FirstLine s (Some r) = (cut s ≡ line r.0.now (cut r.1.now)) × (length r.0.now + length r.1.now + 1 ≡ length s)
 
--- ── Lines ─────────────────────────────────────────────────────────────────────────────────
+abbrev pub is_lf : ℕ → Bool
+is_lf b = eqb b 10
 
-unfoldable bytes_before : Bytes → Lines → Lines
-bytes_before [] ls = ls
-bytes_before (b ∷ bs) ls = byte_before b (bytes_before bs ls)
+abbrev CutAt : Bytes → Lines → ℕ → Type 0
+CutAt s ls p = ((p ≡ length s) × (ls ≡ end s)) ⊎ ((p < length s) × (ls ≡ line (take p s) (cut (drop (suc p) s))))
 
-before_line : (bs : Bytes) (ls : Lines) → bytes_before bs (line [] ls) ≡ line bs ls
-unfolding bytes_before byte_before
-before_line [] ls = refl
-before_line (b ∷ bs) ls = ap (byte_before b) (before_line bs ls)
+cut_at : (s : Bytes) → CutAt s (cut s) (position_or_len is_lf s)
+unfolding cut byte_before
+cut_at [] = inl (refl, refl)
+cut_at (b ∷ bs) = go (eqb b 10) (cut_at bs)
+  where
+    lf : ℕ
+    lf = position_or_len is_lf bs
 
-before_end : (bs : Bytes) → bytes_before bs (end []) ≡ end bs
-unfolding bytes_before byte_before
-before_end [] = refl
-before_end (b ∷ bs) = ap (byte_before b) (before_end bs)
+    go : (x : Bool) → CutAt bs (cut bs) lf
+        → CutAt (b ∷ bs) (elim x as (λ _. Lines) [ true ↦ line [] (cut bs) | false ↦ byte_before b (cut bs) ]) (cond (not x) (1 + lf) 0)
+    go true h = inr (omega arith, refl)
+    go false (inl h) = inl (omega (arith, h.0), ap (byte_before b) h.1)
+    go false (inr h) =
+        let e : 1 + lf ≡ suc lf = omega arith in
+        inr (omega (arith, h.0), ap (byte_before b) h.1 ∙ ap (λ (k : ℕ). line (take k (b ∷ bs)) (cut (drop (suc k) (b ∷ bs)))) (sym e))
 
-before_more : (bs : Bytes) (b : ℕ) (ls : Lines) → bytes_before (bs ++ (b ∷ [])) ls ≡ bytes_before bs (byte_before b ls)
-unfolding bytes_before
-before_more [] b ls = refl
-before_more (x ∷ bs) b ls = ap (byte_before x) (before_more bs b ls)
+abbrev FirstAt : Bytes → CodeOption ℕ → Type 0
+FirstAt s None = cut s ≡ end s
+FirstAt s (Some i) = (i < length s) × (cut s ≡ line (take i s) (cut (drop (suc i) s)))
 
-cut_lf : (b : ℕ) (bs : Bytes) → b ≡ 10 → cut (b ∷ bs) ≡ line [] (cut bs)
-unfolding cut
-cut_lf b bs e = rw (cut, eq-eqb b 10 e)
+first_at : (s : Bytes) → FirstAt s (cond (ltb (position_or_len is_lf s) (length s)) (Some (position_or_len is_lf s)) None)
+first_at s = go (cut_at s)
+  where
+    p : ℕ
+    p = position_or_len is_lf s
 
-cut_other : (b : ℕ) (bs : Bytes) → (b ≡ 10 → ⊥) → cut (b ∷ bs) ≡ byte_before b (cut bs)
-unfolding cut
-cut_other b bs n = rw (cut, ne_eqb b 10 n)
+    go : CutAt s (cut s) p → FirstAt s (cond (ltb p (length s)) (Some p) None)
+    go (inl h) = rw (le-ltb p (length s) (omega arith)) h.1
+    go (inr h) = rw (lt-ltb p (length s) h.0) h
 
-module _ (s : Bytes) (at : ℕ) where
-  -- no LF stands before i
-  pub LineTo : ℕ → Type 0
-  LineTo i = cut (drop at s) ≡ bytes_before (take (i - at) (drop at s)) (cut (drop i s))
+-- where the code finds the first LF
+module _ (s : Bytes) (r : CodeOption ℕ) (e : r ≡ cond (ltb (position_or_len is_lf s) (length s)) (Some (position_or_len is_lf s)) None) where
+  first : FirstAt s r
+  first = subst (FirstAt s) (sym e) (first_at s)
 
-  pub line_start : LineTo at
-  unfolding LineTo bytes_before
-  line_start = rw (let z : at - at ≡ 0 = omega arith in z)
+  pub lf_none : r ≡ None → (l : CodeOption (Bor Bytes × Bor Bytes)) → l ≡ None → FirstLine s l
+  lf_none q None d = subst (FirstAt s) q first
+  lf_none q (Some x) d = absurd (let z : ◌≡◌ {A = ℕ} 0 1 = cc in omega arith)
 
-  module _ (i : ℕ) (l : at ≤ i) (f : LineTo i) where
-    pub line_on : i < length s → (get_or s i 0 ≡ 10 → ⊥) → LineTo (i + 1)
-    unfolding LineTo
-    line_on h n =
-        let k : i + 1 - at ≡ suc (i - at) = omega arith in
-        let t : take (i + 1 - at) (drop at s) ≡ take (i - at) (drop at s) ++ (get_or s i 0 ∷ []) =
-        ap (λ (x : ℕ). take x (drop at s)) k
-        ∙ take-suc (drop at s) (i - at) 0 (rw length-drop (omega arith))
-        ∙ ap (λ (x : ℕ). take (i - at) (drop at s) ++ (x ∷ [])) (get_or-drop at s (i - at) 0 ∙ ap (λ (x : ℕ). get_or s x 0) (let z : at + (i - at) ≡ i = omega arith in z)) in
-        let d : cut (drop i s) ≡ byte_before (get_or s i 0) (cut (drop (i + 1) s)) =
-        ap cut (drop-cons s i 0 h) ∙ cut_other (get_or s i 0) (drop (suc i) s) n ∙ (rw (add-one i)) in
-        f ∙ ap (bytes_before (take (i - at) (drop at s))) d
-        ∙ sym (before_more (take (i - at) (drop at s)) (get_or s i 0) (cut (drop (i + 1) s)))
-        ∙ ap (λ (x : Bytes). bytes_before x (cut (drop (i + 1) s))) (sym t)
-
-    pub line_lf : i < length s → get_or s i 0 ≡ 10 → LineEnd s at i
-    unfolding LineTo
-    line_lf h e =
-        record {
-          from = l;
-          in_bytes = omega arith;
-          none_left = λ x. absurd (omega arith);
-          one_more =
-              λ x. f
-              ∙ ap (bytes_before (take (i - at) (drop at s))) (ap cut (drop-cons s i 0 h) ∙ cut_lf (get_or s i 0) (drop (suc i) s) e)
-              ∙ before_line (take (i - at) (drop at s)) (cut (drop (suc i) s))
-              ∙ (rw (add-one i));
-        }
-
-    pub line_short : length s ≤ i → i ≤ length s → LineEnd s at i
-    unfolding LineTo cut
-    line_short h u =
-        record {
-          from = l;
-          in_bytes = u;
-          none_left =
-              λ x. f
-              ∙ ap (λ (y : Bytes). bytes_before (take (i - at) (drop at s)) (cut y)) (drop_of_length-le s {i = i} h)
-              ∙ before_end (take (i - at) (drop at s))
-              ∙ ap end (take_all (i - at) (drop at s) (rw length-drop (omega arith)));
-          one_more = λ x. absurd (omega arith);
-        }
+  pub lf_some : (i : ℕ) → r ≡ Some i
+      → (cut s ≡ line (take i s) (cut (take (length s - (i + 1)) (drop (i + 1) s))))
+      × (length (take i s) + length (take (length s - (i + 1)) (drop (i + 1) s)) + 1 ≡ length s)
+  lf_some i q =
+      let f : FirstAt s (Some i) = subst (FirstAt s) q first in
+      let d : length (drop (i + 1) s) ≡ length s - (i + 1) = length-drop (i + 1) s in
+      let t : take (length s - (i + 1)) (drop (i + 1) s) ≡ drop (i + 1) s = take_all (length s - (i + 1)) (drop (i + 1) s) (omega arith) in (
+        f.1 ∙ ap (λ (k : ℕ). line (take i s) (cut (drop k s))) (sym (add-one i)) ∙ ap (λ (x : Bytes). line (take i s) (cut x)) (sym t),
+        omega (arith, f.0, d, ap length t, length-take-le i s (omega (arith, f.0))),
+      )
 
 -- ── Empty tables ──────────────────────────────────────────────────────────────────────────
 
@@ -139,73 +114,60 @@ pub start_sound : Sound at_start
 unfolding lists at_start header_rows chunk_rows all_consts all_ops
 start_sound = record { empty = λ e. refl; chunk = λ a b. absurd (omega arith) }
 
-pub Cleared : List ℕ → ℕ → Type 0
-Cleared t k = (length t ≡ size) × ((j : ℕ) → j < k → get_or t j 0 ≡ 0)
-
-pub clear_none : (t : List ℕ) → length t ≡ size → Cleared t 0
-unfolding Cleared
-clear_none t l = (l, λ j h. absurd (omega arith))
-
-pub clear_more : (t : List ℕ) (k : ℕ) → k < 10 → Cleared t k → Cleared (set t k 0) (k + 1)
-unfolding Cleared
-clear_more t k h c = (
-  length-set t k 0 ∙ c.0,
-  λ j l. ⊎_elim
-      (λ (e : j ≡ k). subst (λ (i : ℕ). get_or (set t k 0) i 0 ≡ 0) (sym e) (get_or-set_same t k 0 0 (omega (arith, c.0))))
-      (λ (n : j ≢ k). get_or-set_other t k j 0 0 n ∙ c.1 j (below j k l n))
-      (eq_or j k),
-)
-  where
-    below : (j k : ℕ) → j < k + 1 → j ≢ k → j < k
-    below j k l n = elim (dec_lt j k) [ yes p ↦ p | no q ↦ absurd (n (omega arith)) ]
-
-pub clear_long : (t : List ℕ) (k : ℕ) → Cleared t k → length t ≡ size
-unfolding Cleared
-clear_long t k c = c.0
-
-pub clear_done : (t : List ℕ) (k : ℕ) → 10 ≤ k → Cleared t k → Held t (lists at_start)
-unfolding Cleared table rows
-clear_done t k h c =
+-- the counts of all tables are cleared
+pub cleared : (t counts : List ℕ) → length t ≡ size → counts ≡ replicate 10 0 → Held (counts ++ post_of 0 10 t) (lists at_start)
+unfolding table rows
+cleared t counts l e =
+    let n : length counts ≡ 10 = ap length e in
+    let zero : (j : ℕ) → j < 10 → get_or (counts ++ post_of 0 10 t) j 0 ≡ 0 =
+    λ j h. get_or-append counts (post_of 0 10 t) 0 j (omega arith) ∙ ap (λ (x : List ℕ). get_or x j 0) e ∙ get_or-replicate 10 j 0 0 h in
     record {
-      long = c.0;
-      same = λ j l. (rw (c.1 j (omega arith), start_empty j));
-      full = λ j l. omega (arith, c.1 j (omega arith));
+      long = length-append counts (post_of 0 10 t) ∙ omega (arith, n, length-drop 10 t);
+      same = λ j h. (rw (zero j h, start_empty j));
+      full = λ j h. omega (arith, zero j h);
     }
 
 -- ── The lines so far ──────────────────────────────────────────────────────────────────────
 
-pub record Going (s t : List ℕ) (place lines at : ℕ) : Type 0 where
+-- after so many lines, before the bytes `rest`
+pub record Going (s t : List ℕ) (place lines : ℕ) (rest : Bytes) : Type 0 where
   pub reader : Reader
   pub place_is : reader.place ≡ place
   pub held : Held t (lists reader)
   pub sound : Sound reader
-  pub left : read_all s ≡ read_lines lines reader (cut (drop at s))
-  pub in_bytes : at ≤ length s
-  pub few : lines ≤ at
+  pub left : read_all s ≡ read_lines lines reader (cut rest)
+  pub few : lines + length rest ≤ length s
 
-pub going_start : (s t : List ℕ) → Held t (lists at_start) → Going s t 0 0 0
+pub going_start : (s t : List ℕ) → Held t (lists at_start) → Going s t 0 0 s
 unfolding read_all at_start
 going_start s t h =
-    record { reader = at_start; place_is = refl; held = h; sound = start_sound; left = refl; in_bytes = omega arith; few = omega arith }
+    record { reader = at_start; place_is = refl; held = h; sound = start_sound; left = refl; few = omega arith }
 
-module _ (s t : List ℕ) (place lines at : ℕ) (g : Going s t place lines at) where
-  pub no_lf : (e : ℕ) → LineEnd s at e → at < length s → length s ≤ e → (u : List ℕ) → ReadIs (read_all s) (Err (CannotFollow lines)) u
+module _ (s t : List ℕ) (place lines : ℕ) (rest : Bytes) (g : Going s t place lines rest) where
+  pub no_lf : cut rest ≡ end rest → 0 < length rest → (u : List ℕ) → ReadIs (read_all s) (Err (R.CannotFollow lines)) u
   unfolding ReadIs numbers with_chunk fields read_lines or_line provided is_empty
-  no_lf e le h l u =
-      g.left ∙ ap (read_lines lines g.reader) (le.none_left l)
-      ∙ ap (λ (x : Bytes). or_line lines (provided (eqb g.reader.place 10 && is_empty x) g.reader.so_far)) (drop-cons s at 0 h)
-      ∙ ap (λ (b : Bool). or_line lines (provided b g.reader.so_far)) (false_and (eqb g.reader.place 10))
+  no_lf e h u = start rest refl h
     where
       false_and : (b : Bool) → (b && false) ≡ false
       false_and true = refl
       false_and false = refl
 
-  ended : length s ≤ at → read_all s ≡ or_line lines (provided (eqb g.reader.place 10 && true) g.reader.so_far)
-  unfolding read_lines cut is_empty
-  ended h = g.left ∙ ap (λ (x : Bytes). read_lines lines g.reader (cut x)) (drop_of_length-le s {i = at} h)
+      start : (x : Bytes) → rest ≡ x → 0 < length rest → read_all s ≡ refused (1 ∷ 0 ∷ lines ∷ [])
+      start [] y l = absurd (omega (arith, ap length y))
+      start (b ∷ bs) y l =
+          g.left ∙ ap (read_lines lines g.reader) (e ∙ ap end y)
+          ∙ ap (λ (z : Bool). or_line lines (provided z g.reader.so_far)) (false_and (eqb g.reader.place 10))
 
-  pub all_read : length s ≤ at → place ≡ 10 → ReadIs (read_all s) (Ok tt) t
-  unfolding ReadIs numbers with_chunk fields or_line provided
+  ended : length rest ≡ 0 → read_all s ≡ or_line lines (provided (eqb g.reader.place 10 && true) g.reader.so_far)
+  unfolding read_lines cut is_empty
+  ended h = start rest refl h
+    where
+      start : (x : Bytes) → rest ≡ x → length rest ≡ 0 → read_all s ≡ or_line lines (provided (eqb g.reader.place 10 && true) g.reader.so_far)
+      start [] y l = g.left ∙ ap (λ (z : Bytes). read_lines lines g.reader (cut z)) y
+      start (b ∷ bs) y l = absurd (omega (arith, ap length y))
+
+  pub all_read : length rest ≡ 0 → place ≡ 10 → ReadIs (read_all s) (Ok tt) t
+  unfolding ReadIs or_line provided
   all_read h p = (
     g.reader,
     ended h ∙ (rw (eq-eqb g.reader.place 10 (g.place_is ∙ p))),
@@ -213,45 +175,23 @@ module _ (s t : List ℕ) (place lines at : ℕ) (g : Going s t place lines at) 
     g.held,
   )
 
-  pub end_missing : length s ≤ at → (place ≡ 10 → ⊥) → (u : List ℕ) → ReadIs (read_all s) (Err (CannotFollow lines)) u
+  pub end_missing : length rest ≡ 0 → (place ≡ 10 → ⊥) → (u : List ℕ) → ReadIs (read_all s) (Err (R.CannotFollow lines)) u
   unfolding ReadIs numbers with_chunk fields or_line provided
   end_missing h n u = ended h ∙ (rw (ne_eqb g.reader.place 10 (λ e. n (sym g.place_is ∙ e))))
 
-  module _ (e : ℕ) (le : LineEnd s at e) (h : e < length s) where
-    abbrev this : Bytes
-    this = take (e - at) (drop at s)
-
-    first_line_of : read_all s ≡ (next_line lines g.reader this >>= λ q. read_lines (suc lines) q (cut (drop (e + 1) s)))
+  module _ (this after : Bytes) (c : cut rest ≡ line this (cut after)) (l : length this + length after + 1 ≡ length rest) where
+    first_line_of : read_all s ≡ (next_line lines g.reader this >>= λ q. read_lines (suc lines) q (cut after))
     unfolding read_lines
-    first_line_of = g.left ∙ ap (read_lines lines g.reader) (le.one_more h)
+    first_line_of = g.left ∙ ap (read_lines lines g.reader) c
 
-    module _ (st : Step) (u : List ℕ)
-        (f : (n : ℕ) (q : Reader) → q.place ≡ place → Held t (lists q) → Sound q → StepIs n (next_line n q this) st u) where
-      abbrev stepped : StepIs lines (next_line lines g.reader this) st u
-      stepped = f lines g.reader g.place_is g.held g.sound
+    module _ (u : List ℕ) where
+      pub line_refused : (r : Refusal) → StepIs (next_line lines g.reader this) (Err r) u → (v : List ℕ) → ReadIs (read_all s) (Err r) v
+      unfolding ReadIs StepIs ◌>>=◌
+      line_refused r d v = first_line_of ∙ (rw d)
 
-      pub line_wrong : st ≡ Wrong → (v : List ℕ) → ReadIs (read_all s) (Err (CannotFollow lines)) v
-      unfolding ReadIs numbers with_chunk fields StepIs ◌>>=◌
-      line_wrong x v =
-          let d : next_line lines g.reader this ≡ refused (1 ∷ 0 ∷ lines ∷ []) = subst (λ (y : Step). StepIs lines (next_line lines g.reader this) y u) x stepped in
-          first_line_of ∙ (rw d)
-
-      pub line_full : st ≡ Full → (v : List ℕ) → ReadIs (read_all s) (Err (LimitPassed 0 Limits.Table)) v
-      unfolding ReadIs numbers with_chunk fields StepIs ◌>>=◌
-      line_full x v =
-          let d : next_line lines g.reader this ≡ refused (2 ∷ 0 ∷ 0 ∷ 2 ∷ []) = subst (λ (y : Step). StepIs lines (next_line lines g.reader this) y u) x stepped in
-          first_line_of ∙ (rw d)
-
-      pub line_locals : st ≡ Locals → (v : List ℕ) → ReadIs (read_all s) (Err (LimitPassed 0 Limits.Locals)) v
-      unfolding ReadIs numbers with_chunk fields StepIs ◌>>=◌
-      line_locals x v =
-          let d : next_line lines g.reader this ≡ refused (2 ∷ 0 ∷ 0 ∷ 3 ∷ []) = subst (λ (y : Step). StepIs lines (next_line lines g.reader this) y u) x stepped in
-          first_line_of ∙ (rw d)
-
-      pub line_done : (p : ℕ) → st ≡ On p → Going s u p (lines + 1) (e + 1)
+      pub line_done : (p : Place) → StepIs (next_line lines g.reader this) (Ok p) u → Going s u (place_number p) (lines + 1) after
       unfolding StepIs ◌>>=◌
-      line_done p x =
-          let d = subst (λ (y : Step). StepIs lines (next_line lines g.reader this) y u) x stepped in
+      line_done p d =
           record {
             reader = d.0;
             place_is = d.2;
@@ -259,17 +199,16 @@ module _ (s t : List ℕ) (place lines at : ℕ) (g : Going s t place lines at) 
             sound = d.4;
             left =
                 first_line_of
-                ∙ ap (λ (y : Result Reader). y >>= λ q. read_lines (suc lines) q (cut (drop (e + 1) s))) d.1
-                ∙ ap (λ (n : ℕ). read_lines n d.0 (cut (drop (e + 1) s))) (sym (add-one lines));
-            in_bytes = omega arith;
-            few = omega (arith, g.few, le.from);
+                ∙ ap (λ (y : Result Reader). y >>= λ q. read_lines (suc lines) q (cut after)) d.1
+                ∙ ap (λ (n : ℕ). read_lines n d.0 (cut after)) (sym (add-one lines));
+            few = omega (arith, g.few);
           }
 
 pub read_fine : (s : Bytes) → length s ≤ 65536 → read s ≡ read_all s
 unfolding read read_all pass unless ◌>>=◌
 read_fine s h = rw (le-leb (length s) 65536 h)
 
-pub read_long : (s : Bytes) → 65536 < length s → (u : List ℕ) → ReadIs (read s) (Err (LimitPassed 0 Limits.Bytes)) u
+pub read_long : (s : Bytes) → 65536 < length s → (u : List ℕ) → ReadIs (read s) (Err (R.LimitPassed 0 L.Bytes)) u
 unfolding ReadIs numbers with_chunk fields read pass unless ◌>>=◌
 read_long s h u = rw (lt-leb (length s) 65536 h)
 

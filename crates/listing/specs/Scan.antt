@@ -1,12 +1,11 @@
--- Line forms as bytes, and what reading by them gives: the values of a line as words.
+-- Line forms as codes, and what reading by them gives: the values of a line as words.
 -- A byte below 128 stands for itself. 128, 129 and 130 are a number of 8, 16 and 32 bits; 131 one of W, 132 one of A, 133 one of const's K,
 -- 134 a K of 0 to 7, 135 a KIND of 0 to 3, 136 one of F; 140 is a shape, 141 any number of shapes.
-use Rattle.std.specs.Prelude.{Bool, true, false, List, [], ◌∷◌, ◌++◌, map, ℕ, zero, suc, leb, ltb, eqb, length}
+use Rattle.std.specs.Prelude.{Bool, true, false, List, [], ◌∷◌, ◌++◌, map, ℕ, leb, ltb, eqb, length}
 use Rattle.std.proofs.Math.Option.{Option, some}
 use Rattle.definition.specs.Basics.{choose, is_member}
 use Rattle.definition.specs.Format.{Bytes, bytes, Item, text, number, among, numbers, shape, shapes, Form, strip, number_at, shapes_at, shape_at, ◌and_then◌}
-use Rattle.definition.specs.Ops.{ops}
-use Rattle.definition.specs.Read.{Line, line_forms, op_forms}
+use Rattle.definition.specs.Read.{Line}
 use Rattle.bytecode.specs.Held.{wire_word}
 
 -- ── Codes ─────────────────────────────────────────────────────────────────────────────────
@@ -93,27 +92,6 @@ scan (c ∷ cs) bs = then_words (item c bs) (scan cs)
 
 -- ── The forms ─────────────────────────────────────────────────────────────────────────────
 
-unfoldable pub forms : List (Form Line)
-forms = line_forms ++ op_forms 0 ops
-
 unfoldable pub form_codes : List (Form Line) → List (List ℕ)
 form_codes [] = []
 form_codes (f ∷ fs) = codes f.items ∷ form_codes fs
-
--- each form in 16 bytes, filled up with LF
-unfoldable pub filled : ℕ → List ℕ → List ℕ
-filled zero cs = []
-filled (suc n) [] = 10 ∷ filled n []
-filled (suc n) (c ∷ cs) = c ∷ filled n cs
-
-unfoldable pub flat : List (List ℕ) → List ℕ
-flat [] = []
-flat (cs ∷ css) = filled 16 cs ++ flat css
-
-unfoldable pub formats : List ℕ
-formats = flat (form_codes line_forms)
-
--- the codes before the first LF
-unfoldable pub up_to : List ℕ → List ℕ
-up_to [] = []
-up_to (c ∷ cs) = elim (eqb c 10) [ true ↦ [] | false ↦ c ∷ up_to cs ]

@@ -1,13 +1,12 @@
 -- One line: from the tables before it to the tables after it.
 use Rattle.std.proofs.Math.Path.{◌≡◌, refl, ap, subst}
-use Rattle.std.proofs.Common.{sym, ◌∙◌, arith, zero-add, eqb→eq, ltb→lt, inl, inr, ⊎_elim, length-append, length-set, get_or-set_same, get_or-set_other}
-use Rattle.std.specs.Prelude.{Bool, ◌&&◌, T, ltb, eqb, ◌⊎◌, ◌≢◌, set}
+use Rattle.std.proofs.Common.{sym, ◌∙◌, arith, zero-add, inl, inr, ⊎_elim, length-append, length-set, get_or-set_same, get_or-set_other}
+use Rattle.std.specs.Prelude.{Bool, ◌&&◌, T, eqb, ◌⊎◌, ◌≢◌, set, Option as CodeOption, Some, None, Result as Outcome, Ok, Err}
 use Rattle.std.proofs.Math.Bool.{true, false, not}
 use Rattle.std.proofs.Math.Option.{Option, none, some}
 use mathlib.Core.List.{List, [], ◌∷◌, ◌++◌, map, append-nil}
 use Prim.Native.Nat.{ℕ, zero, suc, ◌+◌, ◌-◌, ◌≤◌, ◌<◌}
 use Rattle.std.proofs.Math.Dec.{leb}
-use Rattle.std.specs.Float.Ieee.Fits.{and_l, and_r}
 use borrow.Author.Tests.{le-ltb, lt-ltb, le-leb, lt-leb, leb-true, eq-eqb, ne_eqb}
 use Rattle.std.proofs.Math.Decide.{dec_lt}
 use Rattle.std.proofs.Math.ListN.{length, get_or, get_or-map, get_or-eq_default}
@@ -22,30 +21,39 @@ use Rattle.theorems.specs.KindOf.{has_kinds}
 use Rattle.bytecode.specs.Meaning.{maxima_of, table_header, cell}
 use Rattle.bytecode.specs.Held.{Held, lists, Sound, Stands, kind, words, more, more_is, held_more, held_count, length-map, chunk_rows, header_rows, header_words, cell_is}
 use Rattle.bytecode.specs.Held.{slot_words, shared_words, private_words, one_word, native_words, sig_words, op_words}
-use Rattle.listing.specs.Forms.{Fits, form_kind, row_words, head_word, tail_words, may_stand, may_say, place_after, own_limit, counts, kinds, lows, highs, nexts}
-use Rattle.bytecode.specs.Tables.{all_below, at_each}
+use Rattle.listing.specs.Forms.{Fits, form_number, form_kind, place_number, row_words, head_word, tail_words, may_stand, may_say, place_after, own_limit, counts, kinds, lows, highs}
 use Rattle.listing.specs.Kinds.{named_same, lacking_limited}
-use Rattle.listing.specs.Rows.{Stored}
-use Rattle.listing.specs.Find.{Entered}
-use Rattle.listing.specs.declared.Entry.{Entry}
-use Rattle.listing.specs.declared.Step.{Step}
-use Rattle.listing.specs.declared.Step.TheVariants.{On, Wrong, Full, Locals}
+use Rattle.listing.specs.Stored.{Stored}
+use Rattle.listing.specs.declared.entry.Values.{Values}
+use Rattle.listing.specs.declared.form.Form.{Form}
+use Rattle.listing.specs.declared.form.Form.TheVariants as F
+use Rattle.listing.specs.declared.place.Place.{Place}
+use Rattle.answer.specs.Answer.{numbers, with_chunk, fields}
+use Rattle.answer.specs.Codes.{limit_number}
+use Rattle.answer.specs.declared.Refusal.{Refusal}
+use Rattle.answer.specs.declared.Refusal.TheVariants as R
+use Rattle.answer.specs.declared.limit.Limit.{Limit}
+use Rattle.answer.specs.declared.limit.Limit.TheVariants as L
 
 -- What a step says of the definition's next line, u being the tables after it.
-unfoldable pub StepIs : ℕ → Result Reader → Step → List ℕ → Type 0
-StepIs n res (On p) u = (q : Reader) × (res ≡ ok q) × (q.place ≡ p) × Held u (lists q) × Sound q
-StepIs n res Wrong u = res ≡ refused (1 ∷ 0 ∷ n ∷ [])
-StepIs n res Full u = res ≡ refused (2 ∷ 0 ∷ 0 ∷ 2 ∷ [])
-StepIs n res Locals u = res ≡ refused (2 ∷ 0 ∷ 0 ∷ 3 ∷ [])
+unfoldable pub StepIs : Result Reader → Outcome Place Refusal → List ℕ → Type 0
+StepIs res (Ok p) u = (q : Reader) × (res ≡ ok q) × (q.place ≡ place_number p) × Held u (lists q) × Sound q
+StepIs res (Err r) u = res ≡ refused (numbers 0 r)
 
--- The limit that a line meets by itself, as its number; 0 is none.
-unfoldable pub limit_of : ℕ → Option (List ℕ)
-limit_of zero = none
-limit_of (suc n) = some (limit (suc n))
+-- the limit that a line meets by itself, as a refusal has it
+abbrev pub limit_of : CodeOption Limit → Option (List ℕ)
+limit_of None = none
+limit_of (Some l) = some (limit (limit_number l))
 
 -- the words of a row, as many as any table has
 abbrev pub SameWords : List ℕ → List ℕ → Type 0
 SameWords r ws = (j : ℕ) → j < 19 → get_or r j 0 ≡ get_or ws j 0
+
+-- the words of a line's row, after so many constants and instructions
+abbrev pub RowIs : Form → Values → ℕ → ℕ → List ℕ → Type 0
+RowIs form v constants instructions words =
+    (m : Module) (vs : List ℕ) (l : Line) → Stored v vs → Fits l (form_number form) vs → own_limit (form_number form) vs ≡ none
+    → constants ≡ length (all_consts m.chunks) → instructions ≡ length (all_ops m.chunks) → SameWords words (row_words m (form_number form) vs)
 
 module _ (n : ℕ) (r : Reader) (s : Bytes) where
   pub not_read : read_line s ≡ none → next_line n r s ≡ refused (1 ∷ 0 ∷ n ∷ [])
@@ -220,102 +228,145 @@ held_next t u vals vs r l f q fit h e held s p room a same =
 
 -- ── What the code's tests say ─────────────────────────────────────────────────────────────
 
-module _ (e : Entry) (vs : List ℕ) (st : Stored e.vals e.count vs) where
-  pub count_small : e.count ≤ 18 → length vs ≤ 18
+-- where a form says nothing of its own
+own_other : (form : Form) (vs : List ℕ) → (form ≡ F.Signature → ⊥) → (form ≡ F.Chunk → ⊥) → own_limit (form_number form) vs ≡ none
+unfolding own_limit
+own_other F.Module vs a b = refl
+own_other F.SharedSlot vs a b = refl
+own_other F.PrivateSlot vs a b = refl
+own_other F.Shared vs a b = refl
+own_other F.Private vs a b = refl
+own_other F.Enum vs a b = refl
+own_other F.Native vs a b = refl
+own_other F.Signature vs a b = absurd (a refl)
+own_other F.Chunk vs a b = absurd (b refl)
+own_other F.Constant vs a b = refl
+own_other F.Close vs a b = refl
+own_other (F.Op row) vs a b =
+    rw (own_limit, ne_eqb (11 + row) 7 (λ e. absurd (omega arith)), ne_eqb (11 + row) 8 (λ e. absurd (omega arith)))
+
+say_other : (float : ℕ) (form : Form) (vs : List ℕ) → (form ≡ F.Module → ⊥) → ((row : ℕ) → form ≡ F.Op row → ⊥) → may_say float (form_number form) vs ≡ true
+unfolding may_say
+say_other float F.Module vs a b = absurd (a refl)
+say_other float F.SharedSlot vs a b = refl
+say_other float F.PrivateSlot vs a b = refl
+say_other float F.Shared vs a b = refl
+say_other float F.Private vs a b = refl
+say_other float F.Enum vs a b = refl
+say_other float F.Native vs a b = refl
+say_other float F.Signature vs a b = refl
+say_other float F.Chunk vs a b = refl
+say_other float F.Constant vs a b = refl
+say_other float F.Close vs a b = refl
+say_other float (F.Op row) vs a b = absurd (b row refl)
+
+module _ (form : Form) (v : Values) (vs : List ℕ) (st : Stored v vs) where
+  count_small : v.count ≤ 18 → length vs ≤ 18
   count_small h = elim (dec_lt 18 (length vs)) [ yes p ↦ absurd (omega (arith, st.over p)) | no q ↦ omega arith ]
 
-  pub count_large : 18 < e.count → 18 < length vs
+  count_large : 18 < v.count → 18 < length vs
   count_large h = elim (dec_lt 18 (length vs)) [ yes p ↦ p | no q ↦ absurd (omega (arith, st.count (omega arith))) ]
 
-  pub limit_many : e.form ≡ 7 → 18 < e.count → own_limit e.form vs ≡ limit_of 2
-  unfolding own_limit limit_of unless
-  limit_many f h = rw (f, lt-leb (length vs) 18 (count_large h))
+  pub limit_many : form ≡ F.Signature → 18 < v.count → own_limit (form_number form) vs ≡ some (limit 2)
+  unfolding own_limit unless
+  limit_many g h = rw (g, lt-leb (length vs) 18 (count_large h))
 
-  pub limit_few : e.form ≡ 7 → e.count ≤ 18 → own_limit e.form vs ≡ limit_of 0
-  unfolding own_limit limit_of unless
-  limit_few f h = rw (f, le-leb (length vs) 18 (count_small h))
+  pub limit_few : form ≡ F.Signature → v.count ≤ 18 → own_limit (form_number form) vs ≡ none
+  unfolding own_limit unless
+  limit_few g h = rw (g, le-leb (length vs) 18 (count_small h))
 
-  first_value : get_or vs 0 0 ≡ get_or e.vals 1 0
+  first_value : get_or vs 0 0 ≡ get_or v.words 1 0
   first_value = sym (st.here 0 (omega arith))
 
-  pub limit_locals : e.form ≡ 8 → 32 < get_or e.vals 1 0 → own_limit e.form vs ≡ limit_of 3
-  unfolding own_limit limit_of unless
-  limit_locals f h = rw (f, first_value, lt-leb (get_or e.vals 1 0) 32 h)
+  pub limit_locals : form ≡ F.Chunk → 32 < get_or v.words 1 0 → own_limit (form_number form) vs ≡ some (limit 3)
+  unfolding own_limit unless
+  limit_locals g h = rw (g, first_value, lt-leb (get_or v.words 1 0) 32 h)
 
-  pub limit_fine : e.form ≡ 8 → get_or e.vals 1 0 ≤ 32 → own_limit e.form vs ≡ limit_of 0
-  unfolding own_limit limit_of unless
-  limit_fine f h = rw (f, first_value, le-leb (get_or e.vals 1 0) 32 h)
+  pub limit_fine : form ≡ F.Chunk → get_or v.words 1 0 ≤ 32 → own_limit (form_number form) vs ≡ none
+  unfolding own_limit unless
+  limit_fine g h = rw (g, first_value, le-leb (get_or v.words 1 0) 32 h)
 
-  pub limit_none : (e.form ≡ 7 → ⊥) → (e.form ≡ 8 → ⊥) → own_limit e.form vs ≡ limit_of 0
-  unfolding own_limit limit_of
-  limit_none a b = rw (own_limit, ne_eqb e.form 7 a, ne_eqb e.form 8 b)
+  pub limit_none : (form ≡ F.Signature → ⊥) → (form ≡ F.Chunk → ⊥) → own_limit (form_number form) vs ≡ none
+  limit_none a b = own_other form vs a b
 
   -- ── Whether the line may stand ────────────────────────────────────────────────────────────
 
   module _ (float p : ℕ) where
-    pub stands_not : within (get_or lows (form_kind e.form) 0) (get_or highs (form_kind e.form) 0) p ≡ false → false ≡ may_stand float p e.form vs
+    pub stands_not : within (get_or lows (form_kind (form_number form)) 0) (get_or highs (form_kind (form_number form)) 0) p ≡ false
+        → may_stand float p (form_number form) vs ≡ false
     unfolding may_stand
     stands_not w = rw w
 
-    module _ (w : within (get_or lows (form_kind e.form) 0) (get_or highs (form_kind e.form) 0) p ≡ true) where
+    module _ (w : within (get_or lows (form_kind (form_number form)) 0) (get_or highs (form_kind (form_number form)) 0) p ≡ true) where
+      says : may_stand float p (form_number form) vs ≡ may_say float (form_number form) vs
+      unfolding may_stand
+      says = rw w
+
       -- I and H
-      pub stands_first : e.form ≡ 0 → not (eqb (get_or e.vals 6 0) (get_or e.vals 7 0)) ≡ may_stand float p e.form vs
-      unfolding may_stand may_say
-      stands_first f =
-          rw (w, may_say, eq-eqb e.form 0 f)
-          (ap (λ (x : ℕ). not (eqb x (get_or e.vals 7 0))) (st.here 5 (omega arith)) ∙ ap (λ (x : ℕ). not (eqb (get_or vs 5 0) x)) (st.here 6 (omega arith)))
+      pub stands_first : form ≡ F.Module → may_stand float p (form_number form) vs ≡ not (eqb (get_or v.words 6 0) (get_or v.words 7 0))
+      unfolding may_say
+      stands_first g =
+          says ∙ ap (λ (x : Form). may_say float (form_number x) vs) g
+          ∙ (rw (← st.here 5 (omega arith), ← st.here 6 (omega arith)))
 
       -- the kinds that an op names
-      pub stands_op : 11 ≤ e.form → has_kinds float (maxima_of (e.form - 11)) vs ≡ may_stand float p e.form vs
-      unfolding may_stand may_say
-      stands_op f = rw (w, may_say, ne_eqb e.form 0 (λ z. absurd (omega arith)), le-leb 11 e.form f)
+      pub stands_op : (row : ℕ) → form ≡ F.Op row → may_stand float p (form_number form) vs ≡ has_kinds float (maxima_of row) vs
+      unfolding may_say
+      stands_op row g =
+          let d : 11 + row - 11 ≡ row = omega arith in
+          says ∙ ap (λ (x : Form). may_say float (form_number x) vs) g
+          ∙ (rw (may_say, ne_eqb (11 + row) 0 (λ e. absurd (omega arith)), le-leb 11 (11 + row) (omega arith), d))
 
-      pub stands_other : (e.form ≡ 0 → ⊥) → e.form < 11 → true ≡ may_stand float p e.form vs
-      unfolding may_stand may_say
-      stands_other f h = rw (w, may_say, ne_eqb e.form 0 f, lt-leb 11 e.form h)
+      pub stands_other : (form ≡ F.Module → ⊥) → ((row : ℕ) → form ≡ F.Op row → ⊥) → may_stand float p (form_number form) vs ≡ true
+      stands_other g h = says ∙ say_other float form vs g h
 
-  -- ── The words of a row ────────────────────────────────────────────────────────────────────
+pub ruleset limit_laws = (limit_many, limit_few, limit_locals, limit_fine, limit_none)
 
-  module _ (l : Line) (fit : Fits l e.form vs) (own : own_limit e.form vs ≡ none) where
+pub ruleset stand_laws = (stands_not, stands_first, stands_op, stands_other)
+
+-- ── The words of a row ────────────────────────────────────────────────────────────────────
+
+module _ (f : ℕ) (v : Values) (vs : List ℕ) (st : Stored v vs) where
+  module _ (l : Line) (fit : Fits l f vs) (own : own_limit f vs ≡ none) where
     -- the count is right wherever the first word is one
-    count_right : e.form < 11 → e.count ≡ length vs
+    count_right : f < 11 → v.count ≡ length vs
     unfolding own_limit unless
-    count_right h = st.count (go (eq_or e.form 7))
+    count_right h = st.count (go (eq_or f 7))
       where
         small : (b : Bool) → leb (length vs) 18 ≡ b → unless b (2 ∷ 0 ∷ 0 ∷ 2 ∷ []) ≡ none → length vs ≤ 18
         small true q d = leb-true (length vs) 18 q
         small false q d = absurd (let z : ◌≡◌ {A = ℕ} 0 1 = cc in omega arith)
 
-        go : (e.form ≡ 7) ⊎ (e.form ≢ 7) → length vs ≤ 18
+        go : (f ≡ 7) ⊎ (f ≢ 7) → length vs ≤ 18
         go (inl q) = small (leb (length vs) 18) refl (sym (rw q) ∙ own)
         go (inr q) = fit.short h q
 
-    head_right : head_word e.form e.count ≡ head_word e.form (length vs)
+    head_right : head_word f v.count ≡ head_word f (length vs)
     unfolding head_word choose
-    head_right = elim (dec_lt e.form 11) [
-      | yes p ↦ ap (head_word e.form) (count_right p)
-      | no q ↦ (rw (le-leb 11 e.form (omega arith)))
+    head_right = elim (dec_lt f 11) [
+      | yes p ↦ ap (head_word f) (count_right p)
+      | no q ↦ (rw (le-leb 11 f (omega arith)))
     ]
 
     abbrev headed : List ℕ
-    headed = set e.vals 0 (head_word e.form e.count)
+    headed = set v.words 0 (head_word f v.count)
 
-    headed_first : get_or headed 0 0 ≡ head_word e.form (length vs)
-    headed_first = get_or-set_same e.vals 0 (head_word e.form e.count) 0 (omega (arith, st.long)) ∙ head_right
+    headed_first : get_or headed 0 0 ≡ head_word f (length vs)
+    headed_first = get_or-set_same v.words 0 (head_word f v.count) 0 (omega (arith, st.long)) ∙ head_right
 
     headed_other : (j : ℕ) → j < 18 → get_or headed (suc j) 0 ≡ get_or vs j 0
     headed_other j h =
-        get_or-set_other e.vals 0 (suc j) (head_word e.form e.count) 0 (λ x. absurd (omega arith))
-        ∙ ap (λ (k : ℕ). get_or e.vals k 0) (let z : suc j ≡ j + 1 = omega arith in z) ∙ st.here j h
+        get_or-set_other v.words 0 (suc j) (head_word f v.count) 0 (λ x. absurd (omega arith))
+        ∙ ap (λ (k : ℕ). get_or v.words k 0) (let z : suc j ≡ j + 1 = omega arith in z) ∙ st.here j h
 
-    pub words_plain : (e.form ≡ 8 → ⊥) → (m : Module) → SameWords headed (row_words m e.form vs)
-    unfolding row_words tail_words
-    words_plain n m zero h = headed_first
-    words_plain n m (suc j) h =
+    words_plain : (m : Module) → tail_words m f ≡ [] → SameWords headed (row_words m f vs)
+    unfolding row_words
+    words_plain m n zero h = headed_first
+    words_plain m n (suc j) h =
         headed_other j (omega arith)
-        ∙ ap (λ (ws : List ℕ). get_or ws j 0) (sym (append-nil vs) ∙ ap (λ (x : List ℕ). vs ++ x) (rw (tail_words, ne_eqb e.form 8 n)))
+        ∙ ap (λ (ws : List ℕ). get_or ws j 0) (sym (append-nil vs) ∙ ap (λ (x : List ℕ). vs ++ x) (sym n))
 
-    module _ (f : e.form ≡ 8) (m : Module) (a b : ℕ) (p : a ≡ length (all_consts m.chunks)) (q : b ≡ length (all_ops m.chunks)) where
+    module _ (g : f ≡ 8) (m : Module) (a b : ℕ) (p : a ≡ length (all_consts m.chunks)) (q : b ≡ length (all_ops m.chunks)) where
       abbrev filled_row : List ℕ
       filled_row = set (set headed 2 a) 3 b
 
@@ -324,24 +375,24 @@ module _ (e : Entry) (vs : List ℕ) (st : Stored e.vals e.count vs) where
       one_value (x ∷ []) g = refl
       one_value (x ∷ y ∷ xs) g = absurd (omega arith)
 
-      chunk_row : row_words m e.form vs ≡ head_word e.form (length vs) ∷ get_or vs 0 0 ∷ a ∷ b ∷ []
+      chunk_row : row_words m f vs ≡ head_word f (length vs) ∷ get_or vs 0 0 ∷ a ∷ b ∷ []
       unfolding row_words tail_words
       chunk_row =
-          let v : vs ≡ get_or vs 0 0 ∷ [] = one_value vs (fit.single f) in
-          let t : tail_words m e.form ≡ a ∷ b ∷ [] = rw (tail_words, eq-eqb e.form 8 f, p, q) in
-          ap (λ (x : List ℕ). head_word e.form (length vs) ∷ (vs ++ x)) t
-          ∙ ap (λ (x : List ℕ). head_word e.form (length vs) ∷ (x ++ (a ∷ b ∷ []))) v
+          let v : vs ≡ get_or vs 0 0 ∷ [] = one_value vs (fit.single g) in
+          let t : tail_words m f ≡ a ∷ b ∷ [] = rw (tail_words, eq-eqb f 8 g, p, q) in
+          ap (λ (x : List ℕ). head_word f (length vs) ∷ (vs ++ x)) t
+          ∙ ap (λ (x : List ℕ). head_word f (length vs) ∷ (x ++ (a ∷ b ∷ []))) v
 
       long_row : length (set headed 2 a) ≡ 19
-      long_row = length-set headed 2 a ∙ length-set e.vals 0 (head_word e.form e.count) ∙ st.long
+      long_row = length-set headed 2 a ∙ length-set v.words 0 (head_word f v.count) ∙ st.long
 
-      pub words_chunk : SameWords filled_row (row_words m e.form vs)
+      words_chunk : SameWords filled_row (row_words m f vs)
       words_chunk j h = at j h ∙ ap (λ (ws : List ℕ). get_or ws j 0) (sym chunk_row)
         where
           past_one : (k : ℕ) → get_or vs (suc k) 0 ≡ 0
-          past_one k = get_or-eq_default vs 0 {n = suc k} (omega (arith, fit.single f))
+          past_one k = get_or-eq_default vs 0 {n = suc k} (omega (arith, fit.single g))
 
-          at : (j : ℕ) → j < 19 → get_or filled_row j 0 ≡ get_or (head_word e.form (length vs) ∷ get_or vs 0 0 ∷ a ∷ b ∷ []) j 0
+          at : (j : ℕ) → j < 19 → get_or filled_row j 0 ≡ get_or (head_word f (length vs) ∷ get_or vs 0 0 ∷ a ∷ b ∷ []) j 0
           at zero h =
               get_or-set_other (set headed 2 a) 3 0 b 0 (λ x. absurd (omega arith)) ∙ get_or-set_other headed 2 0 a 0 (λ x. absurd (omega arith)) ∙ headed_first
           at (suc zero) h =
@@ -349,12 +400,41 @@ module _ (e : Entry) (vs : List ℕ) (st : Stored e.vals e.count vs) where
               ∙ headed_other 0 (omega arith)
           at (suc (suc zero)) h =
               get_or-set_other (set headed 2 a) 3 2 b 0 (λ x. absurd (omega arith))
-              ∙ get_or-set_same headed 2 a 0 (omega (arith, length-set e.vals 0 (head_word e.form e.count), st.long))
+              ∙ get_or-set_same headed 2 a 0 (omega (arith, length-set v.words 0 (head_word f v.count), st.long))
           at (suc (suc (suc zero))) h = get_or-set_same (set headed 2 a) 3 b 0 (omega (arith, long_row))
           at (suc (suc (suc (suc j)))) h =
               get_or-set_other (set headed 2 a) 3 (suc (suc (suc (suc j)))) b 0 (λ x. absurd (omega arith))
               ∙ get_or-set_other headed 2 (suc (suc (suc (suc j)))) a 0 (λ x. absurd (omega arith))
               ∙ headed_other (suc (suc (suc j))) (omega arith) ∙ past_one (suc (suc j))
+
+tail_none : (m : Module) (form : Form) → (form ≡ F.Chunk → ⊥) → tail_words m (form_number form) ≡ []
+unfolding tail_words
+tail_none m F.Module n = refl
+tail_none m F.SharedSlot n = refl
+tail_none m F.PrivateSlot n = refl
+tail_none m F.Shared n = refl
+tail_none m F.Private n = refl
+tail_none m F.Enum n = refl
+tail_none m F.Native n = refl
+tail_none m F.Signature n = refl
+tail_none m F.Chunk n = absurd (n refl)
+tail_none m F.Constant n = refl
+tail_none m F.Close n = refl
+tail_none m (F.Op row) n = rw (tail_words, ne_eqb (11 + row) 8 (λ e. absurd (omega arith)))
+
+-- the words as the code writes them
+module _ (m : Module) (form : Form) (v : Values) (vs : List ℕ) (l : Line) (st : Stored v vs) (fit : Fits l (form_number form) vs) (own : own_limit (form_number form) vs ≡ none)
+    (head : ℕ) (e : head ≡ head_word (form_number form) v.count) where
+  pub row_plain : (form ≡ F.Chunk → ⊥) → SameWords (set v.words 0 head) (row_words m (form_number form) vs)
+  row_plain n =
+      subst (λ (x : ℕ). SameWords (set v.words 0 x) (row_words m (form_number form) vs)) (sym e)
+      (words_plain (form_number form) v vs st l fit own m (tail_none m form n))
+
+  pub row_chunk : form ≡ F.Chunk → (a b : ℕ) → a ≡ length (all_consts m.chunks) → b ≡ length (all_ops m.chunks)
+      → SameWords (set (set (set v.words 0 head) 2 a) 3 b) (row_words m (form_number form) vs)
+  row_chunk g a b p q =
+      subst (λ (x : ℕ). SameWords (set (set (set v.words 0 x) 2 a) 3 b) (row_words m (form_number form) vs)) (sym e)
+      (words_chunk (form_number form) v vs st l fit own (ap form_number g) m a b p q)
 
 -- ── The header already read ───────────────────────────────────────────────────────────────
 
@@ -427,157 +507,126 @@ lists-same : (r : Reader) (p : ℕ) (m : Module) → m ≡ r.so_far → 1 ≤ p 
 unfolding lists
 lists-same r p m e a b = rw (e, le-leb 1 p a, le-leb 1 r.place b)
 
-module _ (n : ℕ) (q : Reader) (s : Bytes) (e : Entry) (en : Entered (read_line s) e) where
-  pub step_unread : 86 ≤ e.form → (u : List ℕ) → StepIs n (next_line n q s) Wrong u
-  unfolding StepIs
-  step_unread h u = not_read n q s (en.nothing h)
+module _ (n : ℕ) (q : Reader) (s : Bytes) where
+  pub step_unread : read_line s ≡ none → (u : List ℕ) → StepIs (next_line n q s) (Err (R.CannotFollow n)) u
+  unfolding StepIs numbers with_chunk fields
+  step_unread h u = not_read n q s h
 
-  module _ (low : e.form < 86) where
-    abbrev line : Line
-    line = (en.one low).0
+  module _ (line : Line) (reads : read_line s ≡ some line) (f : ℕ) (v : Values) (vs : List ℕ) (fit : Fits line f vs) (st : Stored v vs) where
+    pub step_misplaced : may_stand q.so_far.header.float q.place f vs ≡ false → (u : List ℕ) → StepIs (next_line n q s) (Err (R.CannotFollow n)) u
+    unfolding StepIs numbers with_chunk fields
+    step_misplaced m u = out_of_place n q s line reads f vs fit m
 
-    abbrev vals_of : List ℕ
-    vals_of = (en.one low).1
-
-    reads : read_line s ≡ some line
-    reads = (en.one low).2
-
-    fitting : Fits line e.form vals_of
-    fitting = (en.one low).3
-
-    pub kept : Stored e.vals e.count vals_of
-    kept = (en.one low).4
-
-    pub step_misplaced : may_stand q.so_far.header.float q.place e.form vals_of ≡ false → (u : List ℕ) → StepIs n (next_line n q s) Wrong u
-    unfolding StepIs
-    step_misplaced m u = out_of_place n q s line reads e.form vals_of fitting m
-
-    module _ (m : may_stand q.so_far.header.float q.place e.form vals_of ≡ true) (t : List ℕ) (held : Held t (lists q)) (sound : Sound q) where
-      where_line : (get_or lows (form_kind e.form) 0 ≤ q.place) × (q.place ≤ get_or highs (form_kind e.form) 0)
-      where_line = standing q.so_far.header.float q.place e.form (form_kind e.form) vals_of refl m
+    module _ (m : may_stand q.so_far.header.float q.place f vs ≡ true) (t : List ℕ) (held : Held t (lists q)) (sound : Sound q) where
+      where_line : (get_or lows (form_kind f) 0 ≤ q.place) × (q.place ≤ get_or highs (form_kind f) 0)
+      where_line = standing q.so_far.header.float q.place f (form_kind f) vs refl m
 
       line_stands : Stands q.place line
-      line_stands = stands q.place line (standing q.so_far.header.float q.place e.form (kind line) vals_of fitting.table m)
+      line_stands = stands q.place line (standing q.so_far.header.float q.place f (kind line) vs fit.table m)
 
-      pub step_close : form_kind e.form ≡ 10 → (p : ℕ) → p ≡ place_after (form_kind e.form) q.place → StepIs n (next_line n q s) (On p) t
+      pub step_close : form_kind f ≡ 10 → (p : Place) → place_number p ≡ place_after (form_kind f) q.place → StepIs (next_line n q s) (Ok p) t
       unfolding StepIs
       step_close k p x =
-          let kl : kind line ≡ 10 = fitting.table ∙ k in
+          let kl : kind line ≡ 10 = fit.table ∙ k in
           let same : add q.so_far line ≡ q.so_far = kind-form line kl q.so_far in
           let one : 1 ≤ q.place = omega (arith, subst (λ (i : ℕ). get_or lows i 0 ≤ q.place) k where_line.0) in
-          let y : p ≡ place_after (kind line) q.place = x ∙ ap (λ (i : ℕ). place_after i q.place) (sym fitting.table) in (
-            record { place = p; so_far = add q.so_far line },
-            closed_line n q s line reads e.form vals_of fitting m k ∙ ap (λ (i : ℕ). ok (record { place = i; so_far = add q.so_far line })) (sym x),
+          let y : place_number p ≡ place_after (kind line) q.place = x ∙ ap (λ (i : ℕ). place_after i q.place) (sym fit.table) in (
+            record { place = place_number p; so_far = add q.so_far line },
+            closed_line n q s line reads f vs fit m k ∙ ap (λ (i : ℕ). ok (record { place = i; so_far = add q.so_far line })) (sym x),
             refl,
-            subst (Held t) (lists-same q p (add q.so_far line) same (omega (arith, y, after_pos line q.place)) one) held,
-            sound_next q line p y sound line_stands,
+            subst (Held t) (lists-same q (place_number p) (add q.so_far line) same (omega (arith, y, after_pos line q.place)) one) held,
+            sound_next q line (place_number p) y sound line_stands,
           )
 
-      module _ (k : form_kind e.form < 10) where
-        no_header : form_kind e.form ≡ 0 → get_or t (form_kind e.form) 0 ≡ get_or (counts q.so_far) (form_kind e.form) 0
+      module _ (k : form_kind f < 10) where
+        no_header : form_kind f ≡ 0 → get_or t (form_kind f) 0 ≡ get_or (counts q.so_far) (form_kind f) 0
         unfolding counts
         no_header z =
             let p : q.place ≡ 0 = omega (arith, subst (λ (i : ℕ). q.place ≤ get_or highs i 0) z where_line.1) in
             subst (λ (i : ℕ). get_or t i 0 ≡ get_or (counts q.so_far) i 0) (sym z)
             (held_count t (lists q) 0 (omega arith) held ∙ ap (λ (ls : List (List (List ℕ))). length (get_or ls 0 [])) (sound.empty p))
 
-        counted : get_or t (form_kind e.form) 0 ≡ get_or (counts q.so_far) (form_kind e.form) 0
-        counted = ⊎_elim no_header (λ z. count_is t q (form_kind e.form) held (pos_of (form_kind e.form) z) k) (eq_or (form_kind e.form) 0)
+        counted : get_or t (form_kind f) 0 ≡ get_or (counts q.so_far) (form_kind f) 0
+        counted = ⊎_elim no_header (λ z. count_is t q (form_kind f) held (pos_of (form_kind f) z) k) (eq_or (form_kind f) 0)
           where
             pos_of : (i : ℕ) → i ≢ 0 → 1 ≤ i
             pos_of zero z = absurd (z refl)
             pos_of (suc i) z = omega arith
 
-        pub step_full : cap (form_kind e.form) ≤ get_or t (form_kind e.form) 0 → (u : List ℕ) → StepIs n (next_line n q s) Full u
-        unfolding StepIs
-        step_full c u = table_full n q s line reads e.form vals_of fitting m k (omega (arith, counted))
+        pub step_full : cap (form_kind f) ≤ get_or t (form_kind f) 0 → (u : List ℕ) → StepIs (next_line n q s) (Err (R.LimitPassed 0 L.Table)) u
+        unfolding StepIs numbers with_chunk fields
+        step_full c u = table_full n q s line reads f vs fit m k (omega (arith, counted))
 
-        module _ (room : get_or t (form_kind e.form) 0 < cap (form_kind e.form)) where
-          has_space : get_or (counts q.so_far) (form_kind e.form) 0 < cap (form_kind e.form)
+        module _ (room : get_or t (form_kind f) 0 < cap (form_kind f)) where
+          has_space : get_or (counts q.so_far) (form_kind f) 0 < cap (form_kind f)
           has_space = omega (arith, counted)
 
-          pub step_many : own_limit e.form vals_of ≡ limit_of 2 → (u : List ℕ) → StepIs n (next_line n q s) Full u
-          unfolding StepIs limit_of
-          step_many o u = own_refused n q s line reads e.form vals_of fitting m k has_space (limit 2) o
+          pub step_limit : (l : Limit) → own_limit f vs ≡ some (limit (limit_number l)) → (u : List ℕ) → StepIs (next_line n q s) (Err (R.LimitPassed 0 l)) u
+          unfolding StepIs numbers with_chunk fields
+          step_limit l o u = own_refused n q s line reads f vs fit m k has_space (limit (limit_number l)) o
 
-          pub step_locals : own_limit e.form vals_of ≡ limit_of 3 → (u : List ℕ) → StepIs n (next_line n q s) Locals u
-          unfolding StepIs limit_of
-          step_locals o u = own_refused n q s line reads e.form vals_of fitting m k has_space (limit 3) o
-
-          pub step_stored : own_limit e.form vals_of ≡ none → (row u : List ℕ) → (p : ℕ) → p ≡ place_after (form_kind e.form) q.place
-              → ((mo : Module) (vs : List ℕ) (l : Line) → Stored e.vals e.count vs → Fits l e.form vs → own_limit e.form vs ≡ none
-              → get_or t 8 0 ≡ length (all_consts mo.chunks) → get_or t 9 0 ≡ length (all_ops mo.chunks) → SameWords row (row_words mo e.form vs))
-              → Appended t (form_kind e.form) row u → StepIs n (next_line n q s) (On p) u
+          pub step_stored : own_limit f vs ≡ none → (row u : List ℕ) → (p : Place) → place_number p ≡ place_after (form_kind f) q.place
+              → ((mo : Module) (vs : List ℕ) (l : Line) → Stored v vs → Fits l f vs → own_limit f vs ≡ none
+              → get_or t 8 0 ≡ length (all_consts mo.chunks) → get_or t 9 0 ≡ length (all_ops mo.chunks) → SameWords row (row_words mo f vs))
+              → Appended t (form_kind f) row u → StepIs (next_line n q s) (Ok p) u
           unfolding StepIs counts
           step_stored o row u p x w a =
-              let y : p ≡ place_after (kind line) q.place = x ∙ ap (λ (i : ℕ). place_after i q.place) (sym fitting.table) in
-              let ws : SameWords row (row_words q.so_far e.form vals_of) =
-              w q.so_far vals_of line kept fitting o (count_is t q 8 held (omega arith) (omega arith)) (count_is t q 9 held (omega arith) (omega arith)) in (
-                record { place = p; so_far = add q.so_far line },
-                stored_line n q s line reads e.form vals_of fitting m k has_space o
+              let y : place_number p ≡ place_after (kind line) q.place = x ∙ ap (λ (i : ℕ). place_after i q.place) (sym fit.table) in
+              let ws : SameWords row (row_words q.so_far f vs) =
+              w q.so_far vs line st fit o (count_is t q 8 held (omega arith) (omega arith)) (count_is t q 9 held (omega arith) (omega arith)) in (
+                record { place = place_number p; so_far = add q.so_far line },
+                stored_line n q s line reads f vs fit m k has_space o
                     ∙ ap (λ (i : ℕ). ok (record { place = i; so_far = add q.so_far line })) (sym x),
                 refl,
-                held_next t u row vals_of q line e.form p fitting k x held sound line_stands room a
-                    (λ j l. ws j (omega (arith, stride_small (form_kind e.form) k))),
-                sound_next q line p y sound line_stands,
+                held_next t u row vs q line f (place_number p) fit k x held sound line_stands room a (λ j l. ws j (omega (arith, stride_small (form_kind f) k))),
+                sound_next q line (place_number p) y sound line_stands,
               )
 
--- ── Tables of kinds and places ────────────────────────────────────────────────────────────
+-- The same as the code asks it: b says whether the line may stand.
+module _ (n : ℕ) (q : Reader) (s : Bytes) (place : Place) (t : List ℕ) (form : Form) (v : Values)
+    (is : (l : Line) × (vs : List ℕ) × (read_line s ≡ some l) × Fits l (form_number form) vs × Stored v vs)
+    (p : q.place ≡ place_number place) (held : Held t (lists q)) (sound : Sound q) (float : ℕ) (same : float ≡ (table_header t).float)
+    (b : Bool) (may : (vs : List ℕ) → Stored v vs → b ≡ may_stand float (place_number place) (form_number form) vs) where
+  abbrev f : ℕ
+  f = form_number form
 
-kind_test : ℕ → Bool
-kind_test f = eqb (get_or kinds f 0) (get_or kinds f 9) && ltb (get_or kinds f 0) 11
+  said : (d : Bool) → b ≡ d → may_stand q.so_far.header.float q.place f is.1 ≡ d
+  said d g = stood t q held (place_number place) float f is.1 b d p same (may is.1 is.4) g
 
-kinds_right : T (all_below 11 kind_test)
-unfolding all_below kind_test
-kinds_right = tt
+  pub line_misplaced : b ≡ false → (u : List ℕ) → StepIs (next_line n q s) (Err (R.CannotFollow n)) u
+  line_misplaced g u = step_misplaced n q s is.0 is.2 f v is.1 is.3 is.4 (said false g) u
 
-pub kind-listed : (f : ℕ) → f < 11 → (get_or kinds f 0 ≡ form_kind f) × (get_or kinds f 0 < 11)
-unfolding form_kind kind_test
-kind-listed f h =
-    let t : T (eqb (get_or kinds f 0) (get_or kinds f 9) && ltb (get_or kinds f 0) 11) = at_each 11 kind_test kinds_right f h in (
-      eqb→eq (get_or kinds f 0) (get_or kinds f 9) (and_l (eqb (get_or kinds f 0) (get_or kinds f 9)) _ t),
-      ltb→lt (get_or kinds f 0) 11 (and_r (eqb (get_or kinds f 0) (get_or kinds f 9)) _ t),
-    )
+  module _ (g : b ≡ true) (next : Place) (after : place_number next ≡ place_after (form_kind f) (place_number place)) where
+    leads : place_number next ≡ place_after (form_kind f) q.place
+    leads = after ∙ ap (place_after (form_kind f)) (sym p)
 
-pub kind-op : (f : ℕ) → 11 ≤ f → 9 ≡ form_kind f
+    pub line_close : form_kind f ≡ 10 → StepIs (next_line n q s) (Ok next) t
+    line_close k = step_close n q s is.0 is.2 f v is.1 is.3 is.4 (said true g) t held sound k next leads
+
+    module _ (k : ℕ) (of : k ≡ form_kind f) (small : k < 10) (most : ℕ) (cap_is : most ≡ cap k) where
+      low : form_kind f < 10
+      low = omega arith
+
+      pub line_full : most ≤ get_or t k 0 → (u : List ℕ) → StepIs (next_line n q s) (Err (R.LimitPassed 0 L.Table)) u
+      line_full h u =
+          step_full n q s is.0 is.2 f v is.1 is.3 is.4 (said true g) t held sound low
+          (subst (λ (x : ℕ). cap x ≤ get_or t x 0) of (subst (λ (x : ℕ). x ≤ get_or t k 0) cap_is h)) u
+
+      module _ (h : get_or t k 0 < most) (own : CodeOption Limit) (own_is : (vs : List ℕ) → Stored v vs → own_limit f vs ≡ limit_of own) where
+        room : get_or t (form_kind f) 0 < cap (form_kind f)
+        room = subst (λ (x : ℕ). get_or t x 0 < cap x) of (subst (λ (x : ℕ). get_or t k 0 < x) cap_is h)
+
+        pub line_limit : (l : Limit) → own ≡ Some l → (u : List ℕ) → StepIs (next_line n q s) (Err (R.LimitPassed 0 l)) u
+        line_limit l o u =
+            step_limit n q s is.0 is.2 f v is.1 is.3 is.4 (said true g) t held sound low room l (own_is is.1 is.4 ∙ ap limit_of o) u
+
+        pub line_stored : own ≡ None → (row u : List ℕ) → RowIs form v (get_or t 8 0) (get_or t 9 0) row → Appended t k row u → StepIs (next_line n q s) (Ok next) u
+        line_stored o row u words a =
+            step_stored n q s is.0 is.2 f v is.1 is.3 is.4 (said true g) t held sound low room (own_is is.1 is.4 ∙ ap limit_of o) row u next leads words
+            (subst (λ (x : ℕ). Appended t x row u) of a)
+
+-- ── Forms of ops ──────────────────────────────────────────────────────────────────────────
+
+pub kind_op : (f : ℕ) → 11 ≤ f → form_kind f ≡ 9
 unfolding form_kind
-kind-op f h = sym (get_or-eq_default kinds 9 {n = f} h)
-
-module _ (k p : ℕ) where
-  pub after_chunk : k ≡ 10 → 8 ≤ p → 7 ≡ place_after k p
-  unfolding place_after choose
-  after_chunk e h = rw (e, le-leb 8 p h)
-
-  pub after_module : k ≡ 10 → p < 8 → 10 ≡ place_after k p
-  unfolding place_after choose
-  after_module e h = rw (e, lt-leb 8 p h)
-
-  pub after_row : (k ≡ 10 → ⊥) → get_or nexts k 0 ≡ place_after k p
-  unfolding place_after choose
-  after_row n = rw (ne_eqb k 10 n)
-
-module _ (a b p : ℕ) where
-  pub before_low : p < a → false ≡ within a b p
-  unfolding within
-  before_low h = rw (lt-leb a p h)
-
-  pub from_low : a ≤ p → leb p b ≡ within a b p
-  unfolding within
-  from_low h = rw (le-leb a p h)
-
-module _ (f n : ℕ) where
-  pub head_op : 11 ≤ f → f - 11 ≡ head_word f n
-  unfolding head_word choose
-  head_op h = rw (le-leb 11 f h)
-
-  pub head_shared : f ≡ 1 → 0 ≡ head_word f n
-  unfolding head_word choose
-  head_shared e = rw e
-
-  pub head_private : f ≡ 2 → 1 ≡ head_word f n
-  unfolding head_word choose
-  head_private e = rw e
-
-  pub head_count : f < 11 → (f ≡ 1 → ⊥) → (f ≡ 2 → ⊥) → n ≡ head_word f n
-  unfolding head_word choose
-  head_count h a b = rw (lt-leb 11 f h, ne_eqb f 1 a, ne_eqb f 2 b)
+kind_op f h = get_or-eq_default kinds 9 {n = f} h

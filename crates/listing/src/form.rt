@@ -1,26 +1,99 @@
-// The forms of lines, in the order in which they are tried; an op has the form FIRST_OP and the number of its row. NONE is past the last.
-pub const MODULE: usize = 0;
+// The forms of lines.
+ghost use Rattle.std.specs.Prelude.{◌≡◌, ◌++◌, ◌<◌, [], get_or, MatchOption};
+ghost use Rattle.definition.specs.Read.{line_forms};
+ghost use Rattle.theorems.specs.Keys.{keys};
+ghost use Rattle.listing.specs.Scan.{form_codes};
+ghost use Rattle.listing.specs.Forms.{form_kind, form_number};
 
-pub const SHARED_SLOT: usize = 1;
+// What a line says; of an op the row of its name.
+#[derive(Clone, Copy)]
+pub enum Form {
+    Module,
+    SharedSlot,
+    PrivateSlot,
+    Shared,
+    Private,
+    Enum,
+    Native,
+    Signature,
+    Chunk,
+    Constant,
+    Close,
+    Op(usize),
+}
 
-pub const PRIVATE_SLOT: usize = 2;
+// The forms of all lines but ops.
+pub static LINES: [Form; 11] = [
+    Form::Module,
+    Form::SharedSlot,
+    Form::PrivateSlot,
+    Form::Shared,
+    Form::Private,
+    Form::Enum,
+    Form::Native,
+    Form::Signature,
+    Form::Chunk,
+    Form::Constant,
+    Form::Close,
+];
 
-pub const SHARED: usize = 3;
+impl Form {
+    // The text that a line begins with. That of an op hangs on its name.
+    #[tactic(auto, unfolding(theorems::specs::Keys::keys, theorems::specs::Keys::key, definition::specs::Read::line_forms, definition::specs::Format::form, definition::specs::Format::bytes))]
+    pub fn text(self) -> &'static [u8]
+        ensures { result.now ≡ get_or (keys line_forms) (form_number self) [] }
+    {
+        match self {
+            Form::Module => b"(module",
+            Form::SharedSlot => b"(slot shared)",
+            Form::PrivateSlot => b"(slot private)",
+            Form::Shared => b"(shared",
+            Form::Private => b"(private",
+            Form::Enum => b"(enum",
+            Form::Native => b"(native",
+            Form::Signature => b"(sig",
+            Form::Chunk => b"(chunk",
+            Form::Constant => b"(const",
+            Form::Close => b")",
+            Form::Op(_) => b"",
+        }
+    }
 
-pub const PRIVATE: usize = 4;
+    // What follows it: a code for each value, as `sort` has them, and the text after the values.
+    #[tactic(auto, unfolding(theorems::specs::Keys::keys, theorems::specs::Keys::key, definition::specs::Read::line_forms, definition::specs::Format::form, definition::specs::Format::bytes, crate::specs::Scan::form_codes, crate::specs::Scan::codes, crate::specs::Scan::max_code, crate::specs::Scan::among_code, definition::specs::Basics::choose, definition::specs::Basics::is_member))]
+    pub fn codes(self) -> &'static [u8]
+        ensures { get_or (keys line_forms) (form_number self) [] ++ result.now ≡ get_or (form_codes line_forms) (form_number self) [] }
+    {
+        match self {
+            Form::Module => b"\x83\x88\x84\x82\x82\x81\x81",
+            Form::Shared => b"\x82\x80\x81)",
+            Form::Private => b"\x81\x82)",
+            Form::Enum => b"\x82)",
+            Form::Native => b"\x8c)",
+            Form::Signature => b"\x8c\x8c\x8d)",
+            Form::Chunk => b"\x81",
+            Form::Constant => b"\x85)",
+            _ => b"",
+        }
+    }
 
-pub const ENUM: usize = 5;
-
-pub const NATIVE: usize = 6;
-
-pub const SIGNATURE: usize = 7;
-
-pub const CHUNK: usize = 8;
-
-pub const CONSTANT: usize = 9;
-
-pub const CLOSE: usize = 10;
-
-pub const FIRST_OP: usize = 11;
-
-pub const NONE: usize = 86;
+    // The table in which a line stands; the closing line stands in none.
+    #[tactic(auto, using(crate::specs::Step::kind_op), unfolding(crate::specs::Forms::form_kind))]
+    pub(crate) fn table(self) -> Option<usize>
+        ensures { MatchOption result (form_kind (form_number self) ≡ 10) (λ k. (k ≡ form_kind (form_number self)) × (k < 10)) }
+    {
+        match self {
+            Form::Module => Some(bytecode::HEADER),
+            Form::SharedSlot | Form::PrivateSlot => Some(bytecode::SLOTS),
+            Form::Shared => Some(bytecode::SHARED),
+            Form::Private => Some(bytecode::PRIVATE),
+            Form::Enum => Some(bytecode::ENUMS),
+            Form::Native => Some(bytecode::NATIVES),
+            Form::Signature => Some(bytecode::SIGNATURES),
+            Form::Chunk => Some(bytecode::CHUNKS),
+            Form::Constant => Some(bytecode::CONSTANTS),
+            Form::Op(_) => Some(bytecode::INSTRUCTIONS),
+            Form::Close => None,
+        }
+    }
+}

@@ -1,948 +1,447 @@
-// Reads a listing into the tables, line by line, each by the first of the line forms that takes it whole.
+// Reads a listing into the tables, line by line, each by the form whose text it begins with.
 #![tactic(auto)]
 
-ghost use Rattle.std.specs.Prelude.{◌≡◌, List, ◌∷◌, [], length, take, drop, get_or, ℕ, ◌+◌, ◌*◌, ◌-◌, ◌<◌, ◌≤◌, true, false, ◌&&◌, leb, eqb};
-ghost use Rattle.std.proofs.Math.Option.{none, some};
-ghost use Rattle.definition.specs.Format.{Bytes, bytes, digits_from, is_digit, begins_digit, begins_number, number_at, numbers_at, strip, begins_with};
-ghost use Rattle.definition.specs.Shapes.{same_places, is_lacking};
-ghost use Rattle.definition.specs.Ops.{ops as op_rows};
+ghost use Rattle.std.specs.Prelude.{◌≡◌, List, ◌∷◌, [], length, drop, get_or, ℕ, ◌+◌, ◌*◌, ◌-◌, ◌<◌, ◌≤◌, ◌&&◌, eqb};
+ghost use Rattle.std.proofs.Math.Option.{none};
+ghost use Rattle.definition.specs.Format.{digits_from, begins_number, number_at, numbers_at};
+ghost use Rattle.definition.specs.Shapes.{is_lacking};
 ghost use Rattle.theorems.specs.KindOf.{has_kinds};
 ghost use Rattle.bytecode.specs.Meaning.{maxima_of};
-ghost use Rattle.bytecode.specs.Names.{name_table};
-ghost use Rattle.listing.specs.Scan.{admitted, formats, shape_word, max_code};
-ghost use Rattle.definition.specs.Basics.{is_member};
-ghost use Rattle.definition.specs.Read.{line_forms, op_forms, read_line};
-ghost use Rattle.definition.specs.Read.{Line, Reader, at_start, next_line, within};
-ghost use Rattle.listing.specs.Reads.{ReadIs, LineEnd, read_all};
+ghost use Rattle.listing.specs.Scan.{admitted, shape_word, max_code, scan};
+ghost use Rattle.definition.specs.Read.{line_forms, read_line};
+ghost use Rattle.definition.specs.Read.{Line, Reader, at_start, next_line};
+ghost use Rattle.listing.specs.Reads.{ReadIs, FirstLine, read_all};
 ghost use Rattle.listing.specs.Answer.{result_of, LeftIn};
 ghost use Rattle.definition.specs.Read.{read as read_listing};
 ghost use Rattle.definition.specs.Module.{Module, all_consts, all_ops};
 ghost use Rattle.bytecode.specs.Tables.{size};
 ghost use Rattle.bytecode.specs.Held.{Held, lists, Sound};
-ghost use Rattle.listing.specs.Forms.{Fits, form_kind, lows, highs, nexts, place_after, may_stand, own_limit, head_word, row_words};
-ghost use Rattle.listing.specs.Step.{StepIs, limit_of, SameWords};
-ghost use Rattle.listing.specs.OpLines.{name_ends, name_of};
-ghost use Rattle.listing.specs.Find.{Entered, whole_line};
-ghost use Rattle.listing.specs.Rows.{Rowed, Stored, left, shapes_over, value_at, code_after};
+ghost use Rattle.listing.specs.Forms.{Fits, form_number, place_number, may_stand, own_limit, head_word, row_words};
+ghost use Rattle.listing.specs.Step.{StepIs, RowIs, limit_of};
+ghost use Rattle.listing.specs.OpLines.{name_ends, name_of, named_line};
+ghost use Rattle.listing.specs.Find.{Formed, Entered, whole_line};
+ghost use Rattle.listing.specs.Stored.{Stored};
+ghost use Rattle.listing.specs.Rows.{Rowed, shapes_over, value_at};
 ghost use Rattle.listing.specs.Shape.{end_at, top_at, scalar_at, flat_at};
-ghost use Rattle.listing.specs.Num.{number_of, after, at_most};
+ghost use Rattle.listing.specs.Num.{number_of, at_most};
 
 use answer::Refusal;
 use answer::limit::Limit;
 use bytecode::ops;
-use bytecode::ops::Found;
+use entry::{Entry, Values};
+use form::Form;
+use place::Place;
 
+mod entry;
 pub mod form;
-mod limit;
 mod place;
 pub mod sort;
 pub mod words;
 
-// The forms of all lines but ops as bytes, 16 to each, filled up with LF; specs/Scan.antt says what a byte stands for.
-const FORMATS: [u8; 176] = *b"(module\x83\x88\x84\x82\x82\x81\x81\n\n\
-    (slot shared)\n\n\n\
-    (slot private)\n\n\
-    (shared\x82\x80\x81)\n\n\n\n\n\
-    (private\x81\x82)\n\n\n\n\n\
-    (enum\x82)\n\n\n\n\n\n\n\n\n\
-    (native\x8c)\n\n\n\n\n\n\n\
-    (sig\x8c\x8c\x8d)\n\n\n\n\n\n\n\n\
-    (chunk\x81\n\n\n\n\n\n\n\n\n\
-    (const\x85)\n\n\n\n\n\n\n\n\
-    )\n\n\n\n\n\n\n\n\n\n\n\n\n\n\n";
-
-// A number, or a shape's word, and where it ends.
-#[derive(Clone, Copy)]
-pub enum Num {
-    Read(u64, usize),
-    Bad,
-}
-
-// The forms, to be lent: an array that is a constant is made anew where it is named.
-pub fn line_formats() -> [u8; 176]
-    ensures { result ≡ formats }
-{
-    FORMATS
-}
-
-pub fn format_at(table: &[u8; 176], j: usize) -> u8
-    requires { (table.now ≡ formats) × (j < 176) }
-    ensures { result ≡ get_or formats j 0 }
-{
-    table[j]
-}
-
-fn wide(x: u8) -> u64
-    ensures { result ≡ x }
-{
-    x as u64
-}
-
-fn digit(b: u8) -> bool
-    ensures { result ≡ is_digit b }
-{
-    if b < b'0' {
-        return false;
-    }
-    b <= b'9'
-}
-
-fn digit_at(s: &[u8], i: usize) -> bool
-    ensures { result ≡ begins_digit (drop i s.now) }
-{
-    if i < s.len() {
-        return digit(s[i]);
-    }
-    false
-}
-
-// A digit comes first, and after a first 0 no other.
-fn number_begins(s: &[u8], i: usize) -> bool
-    ensures { result ≡ begins_number (drop i s.now) }
-{
-    if s.len() <= i {
-        return false;
-    }
-    let b = s[i];
-    if b == b'0' {
-        return !digit_at(s, i + 1);
-    }
-    digit(b)
-}
-
-// n and its end, if n has at most 32 bits.
-fn fit(n: u64, i: usize) -> Num
-    ensures { ((t : Bytes) → number_of t result ≡ at_most 4294967295 (n, drop i t)) }
-{
-    if n <= 4294967295 {
-        Num::Read(n, i)
-    } else {
-        Num::Bad
-    }
-}
-
-// The first digit and the last.
-const ZERO: u64 = 48;
-
-const NINE: u64 = 57;
-
-// The number that the digits from `at` on give, if it has at most 32 bits, and where they end.
-fn digits(s: &[u8], at: usize) -> Num
-    requires { at ≤ length s.now }
-    ensures { number_of s.now result ≡ at_most 4294967295 (digits_from 0 (drop at s.now)) }
-{
-    let mut n: u64 = 0;
-    let mut i = at;
-    while i < s.len() {
-        let b = wide(s[i]);
-        if b < ZERO {
-            return fit(n, i);
-        }
-        if NINE < b {
-            return fit(n, i);
-        }
-        if 4294967295 < n {
-            return Num::Bad;
-        }
-        n = n * 10 + (b - ZERO);
-        i += 1;
-    }
-    fit(n, i)
-}
-
-// The numbers that a code admits.
-pub fn admits(c: u8, n: u64) -> bool
-    ensures { result ≡ admitted c n }
-{
-    match c {
-        sort::WIDTH => is_width(n),
-        sort::FLOAT_WIDTH => is_float_width(n),
-        sort::ADDRESS => is_address(n),
-        sort::CONSTANT => is_constant(n),
-        sort::BITS_8 => n <= 255,
-        sort::BITS_16 => n <= 65535,
-        sort::BITS_32 => n <= 4294967295,
-        sort::SCALAR => n <= 7,
-        _ => n <= 3,
-    }
-}
-
-fn is_width(n: u64) -> bool
-    ensures { result ≡ is_member n (1 ∷ 2 ∷ 4 ∷ 8 ∷ []) }
-{
-    match n {
-        1 => true,
-        2 => true,
-        4 => true,
-        8 => true,
-        _ => false,
-    }
-}
-
-// What a word may have, or 0 where the controller has no floats.
-fn is_float_width(n: u64) -> bool
-    ensures { result ≡ is_member n (0 ∷ 1 ∷ 2 ∷ 4 ∷ 8 ∷ []) }
-{
-    if n == 0 {
-        return true;
-    }
-    is_width(n)
-}
-
-fn is_address(n: u64) -> bool
-    ensures { result ≡ is_member n (3 ∷ 4 ∷ 5 ∷ 6 ∷ []) }
-{
-    match n {
-        3 => true,
-        4 => true,
-        5 => true,
-        6 => true,
-        _ => false,
-    }
-}
-
-fn is_constant(n: u64) -> bool
-    ensures { result ≡ is_member n (0 ∷ 1 ∷ 2 ∷ 3 ∷ 4 ∷ 5 ∷ 6 ∷ 255 ∷ []) }
-{
-    if n <= 6 {
-        return true;
-    }
-    n == 255
-}
-
-// One space and a number that a code admits.
-fn number(s: &[u8], i: usize, c: u8) -> Num
-    ensures { number_of s.now result ≡ number_at (admitted c) (drop i s.now) }
-{
-    if s.len() <= i {
-        return Num::Bad;
-    }
-    if s[i] != b' ' {
-        return Num::Bad;
-    }
-    let at = i + 1;
-    if !number_begins(s, at) {
-        return Num::Bad;
-    }
-    let Num::Read(v, next) = digits(s, at) else {
-        return Num::Bad;
-    };
-    if admits(c, v) {
-        return Num::Read(v, next);
-    }
-    Num::Bad
-}
-
-// The place after a text.
-fn text(s: &[u8], at: usize, t: &[u8]) -> Num
-    ensures { after s.now result ≡ strip t.now (drop at s.now) }
-{
-    let mut i = at;
-    let mut j = 0;
-    while j < t.len() {
-        if s.len() <= i {
-            return Num::Bad;
-        }
-        if s[i] != t[j] {
-            return Num::Bad;
-        }
-        i += 1;
-        j += 1;
-    }
-    Num::Read(0, i)
-}
-
-// The closing parenthesis after the word v.
-fn closed(s: &[u8], i: usize, v: u64) -> Num
-    ensures { number_of s.now result ≡ end_at v (drop i s.now) }
-{
-    let Num::Read(_, e) = text(s, i, &words::CLOSE) else {
-        return Num::Bad;
-    };
-    Num::Read(v, e)
-}
-
-fn shape_top(s: &[u8], i: usize) -> Num
-    ensures { number_of s.now result ≡ top_at (drop i s.now) }
-{
-    let Num::Read(_, e) = text(s, i, &words::TOP) else {
-        return Num::Bad;
-    };
-    Num::Read(0, e)
-}
-
-fn shape_scalar(s: &[u8], i: usize) -> Num
-    ensures { number_of s.now result ≡ scalar_at (drop i s.now) }
-{
-    let Num::Read(_, a) = text(s, i, &words::SCALAR) else {
-        return Num::Bad;
-    };
-    let Num::Read(k, b) = number(s, a, sort::BITS_8) else {
-        return Num::Bad;
-    };
-    closed(s, b, 1 + 4 * k)
-}
-
-fn shape_flat(s: &[u8], i: usize) -> Num
-    ensures { number_of s.now result ≡ flat_at (drop i s.now) }
-{
-    let Num::Read(_, a) = text(s, i, &words::FLAT) else {
-        return Num::Bad;
-    };
-    let Num::Read(k, b) = number(s, a, sort::BITS_8) else {
-        return Num::Bad;
-    };
-    let Num::Read(n, d) = number(s, b, sort::BITS_32) else {
-        return Num::Bad;
-    };
-    closed(s, d, 2 + 4 * k + 1024 * n)
-}
-
-// A shape with the space before it, as its word.
-fn shape(s: &[u8], i: usize) -> Num
-    ensures { number_of s.now result ≡ shape_word (drop i s.now) }
-{
-    if let Num::Read(v, e) = shape_top(s, i) {
-        return Num::Read(v, e);
-    }
-    if let Num::Read(v, e) = shape_scalar(s, i) {
-        return Num::Read(v, e);
-    }
-    shape_flat(s, i)
-}
-
-// The values of a line, from place 1 on, how many there are (19 for more than 18), and where they end.
-#[derive(Clone, Copy)]
-pub struct Row {
-    pub ok: bool,
-    pub next: usize,
-    pub count: usize,
-    pub vals: [u64; 19],
-}
-
-fn no_row() -> Row
-    ensures { result.ok ≡ false }
-{
-    Row {
-        ok: false,
-        next: 0,
-        count: 0,
-        vals: [0u64; 19],
-    }
-}
-
-fn full_row(next: usize, count: usize, vals: [u64; 19]) -> Row
-    ensures { (result.ok ≡ true) × (result.next ≡ next) × (result.count ≡ count) × (result.vals ≡ vals) }
-{
-    Row {
-        ok: true,
-        next: next,
-        count: count,
-        vals: vals,
-    }
-}
-
-// Whether the code is that of shapes, and no space comes next.
-fn over(s: &[u8], i: usize, c: u8) -> bool
-    ensures { result ≡ shapes_over c (drop i s.now) }
-{
-    if c != sort::SHAPES {
-        return false;
-    }
-    if i < s.len() {
-        return s[i] != b' ';
-    }
-    true
-}
-
-// A shape's word, or a number that the code admits.
-fn value(s: &[u8], i: usize, c: u8) -> Num
-    ensures { number_of s.now result ≡ value_at c (drop i s.now) }
-{
-    if c == sort::SHAPE {
-        return shape(s, i);
-    }
-    if c == sort::SHAPES {
-        return shape(s, i);
-    }
-    number(s, i, c)
-}
-
-// The place in the formats after a value: shapes stay where they are.
-pub fn code_after(j: usize, c: u8) -> usize
-    requires { j < 176 }
-    ensures { result ≡ code_after j c }
-{
-    if c == sort::SHAPES { j } else { j + 1 }
-}
-
-// Whether the byte at i is c.
-fn is_byte(s: &[u8], i: usize, c: u8) -> bool
-    ensures { result ≡ begins_with c (drop i s.now) }
-{
-    if i < s.len() {
-        return s[i] == c;
-    }
-    false
-}
-
-// The line s by form f, from its beginning.
-fn scan(table: &[u8; 176], s: &[u8], f: usize) -> Row
-    requires { (f < 11) × (length s.now ≤ 65536) × (table.now ≡ formats) }
-    ensures { Rowed (left s.now 0 (f * 16)) s.now [] result }
-{
-    let mut vals = [0u64; 19];
-    let mut n: usize = 0;
-    let mut i: usize = 0;
-    let mut j = f * 16;
-    while j < 176 {
-        let c = format_at(table, j);
-        if c == b'\n' {
-            break;
-        }
-        if c < sort::BITS_8 {
-            if !is_byte(s, i, c) {
-                return no_row();
-            }
-            i += 1;
-            j += 1;
-            continue;
-        }
-        if over(s, i, c) {
-            j += 1;
-            continue;
-        }
-        let Num::Read(v, next) = value(s, i, c) else {
-            return no_row();
-        };
-        j = code_after(j, c);
-        i = next;
-        if n < 18 {
-            vals[n + 1] = v;
-            n += 1;
-        } else {
-            n = 19;
-        }
-    }
-    full_row(i, n, vals)
-}
-
-// A line: the number of its form (form::NONE where it has none), how many values it has (19 for more than 18), and the values from place 1 on.
-#[derive(Clone, Copy)]
-pub struct Entry {
-    pub form: usize,
-    pub count: usize,
-    pub vals: [u64; 19],
-}
-
-fn no_entry() -> Entry
-    ensures { result.form ≡ 86 }
-{
-    Entry {
-        form: form::NONE,
-        count: 0,
-        vals: [0u64; 19],
-    }
-}
-
-// Whether a form was read, and to the end of the line.
-fn whole(ok: bool, next: usize, end: usize) -> bool
-    ensures { result ≡ (ok && leb end next) }
-{
-    if ok {
-        return end <= next;
-    }
-    false
-}
-
-// A line that is no op, by the first form that takes it whole.
-fn line_entry(s: &[u8]) -> Entry
-    requires { length s.now ≤ 65536 }
-    ensures { Entered (whole_line line_forms s.now) result }
-{
-    let table = line_formats();
-    let mut f = 0;
-    while f < form::FIRST_OP {
-        let r = scan(&table, s, f);
-        let n = r.count;
-        let vals = r.vals;
-        if whole(r.ok, r.next, s.len()) {
-            return Entry {
-                form: f,
-                count: n,
-                vals: vals,
-            };
-        }
-        f += 1;
-    }
-    no_entry()
-}
-
-// Whether an op's name ends at i: before `)`, before a space and a digit, or with the line.
-fn name_ends(s: &[u8], i: usize) -> bool
-    ensures { result ≡ name_ends (drop i s.now) }
-{
-    if s.len() <= i {
-        return true;
-    }
-    let b = s[i];
-    if b == b')' {
-        return true;
-    }
-    if b == b' ' {
-        return digit_at(s, i + 1);
-    }
-    false
-}
-
-// Where the name from `at` on ends.
-fn name_end(s: &[u8], at: usize) -> usize
-    requires { at ≤ length s.now }
-    ensures { (at ≤ result) × (result ≤ length s.now) × (take (result - at) (drop at s.now) ≡ name_of (drop at s.now)) }
-{
-    let mut i = at;
-    while i < s.len() {
-        if name_ends(s, i) {
-            return i;
-        }
-        i += 1;
-    }
-    i
-}
-
-// The largest K: an operand that may be so much is a kind of scalar.
-const MOST_KIND: u64 = 7;
-
-// The code of the numbers up to a maximum.
-pub fn maximum_code(m: u64) -> u8
-    ensures { result ≡ max_code m }
-{
-    if m == 255 {
-        return sort::BITS_8;
-    }
-    if m == 65535 {
-        return sort::BITS_16;
-    }
-    if m == 4294967295 {
-        return sort::BITS_32;
-    }
-    if m == MOST_KIND {
-        return sort::SCALAR;
-    }
-    sort::COMPOSITE
-}
-
-// The operands of a row, from `at` on.
-fn operands(names: &[u64; 781], s: &[u8], at: usize, row: usize) -> Row
-    requires { (row < 75) × (names.now ≡ name_table) }
-    ensures { Rowed (numbers_at (maxima_of row) (drop at s.now)) s.now [] result }
-{
-    let mut vals = [0u64; 19];
-    let mut i = at;
-    let mut j = 0;
-    while j < 3 {
-        let m = ops::maximum(names, row, j);
-        if m == 0 {
-            break;
-        }
-        let c = maximum_code(m);
-        let Num::Read(v, next) = number(s, i, c) else {
-            return no_row();
-        };
-        vals[j + 1] = v;
-        i = next;
-        j += 1;
-    }
-    full_row(i, j, vals)
-}
-
-// Whether the line ends with `)` at i, and what stands before it was read.
-fn closes(s: &[u8], i: usize, ok: bool) -> bool
-    ensures { result ≡ (ok && same_places (drop i s.now) (41 ∷ [])) }
-{
-    if !ok {
-        return false;
-    }
-    if s.len() <= i {
-        return false;
-    }
-    if s[i] != b')' {
-        return false;
-    }
-    s.len() == i + 1
-}
-
-// A line that begins as an op, by the row of its name.
-fn op_entry(names: &[u64; 781], s: &[u8]) -> Entry
-    requires { (strip (bytes "(op ") s.now ≡ some (drop 4 s.now)) × (4 ≤ length s.now) × (names.now ≡ name_table) }
-    ensures { Entered (whole_line (op_forms 0 op_rows) s.now) result }
-{
-    let at = 4;
-    let e = name_end(s, at);
-    let name = &s[at..e];
-    let Found::Row(row) = ops::find(names, name) else {
-        return no_entry();
-    };
-    let r = operands(names, s, e, row);
-    let n = r.count;
-    let vals = r.vals;
-    if closes(s, r.next, r.ok) {
-        return Entry {
-            form: form::FIRST_OP + row,
-            count: n,
-            vals: vals,
-        };
-    }
-    no_entry()
-}
-
-// The line that the bytes say.
-fn read_entry(names: &[u64; 781], s: &[u8]) -> Entry
-    requires { (length s.now ≤ 65536) × (names.now ≡ name_table) }
-    ensures { Entered (read_line s.now) result }
-{
-    let Num::Read(_, _) = text(s, 0, &words::OP) else {
-        return line_entry(s);
-    };
-    op_entry(names, s)
-}
-
-// What a line does: the reader goes on at a place; or the line is refused, by its form or place, by a full table, or by LOCALS.
-#[derive(Clone, Copy)]
-pub enum Step {
-    On(u64),
-    Wrong,
-    Full,
-    Locals,
-}
-
-// The closing line stands in no table.
-const CLOSING: usize = bytecode::TABLES;
-
-// The table of a form, or CLOSING.
-fn kind_of(form: usize) -> usize
-    ensures { (result ≡ form_kind form) × (result < 11) }
-{
-    match form {
-        form::MODULE => bytecode::HEADER,
-        form::SHARED_SLOT => bytecode::SLOTS,
-        form::PRIVATE_SLOT => bytecode::SLOTS,
-        form::SHARED => bytecode::SHARED,
-        form::PRIVATE => bytecode::PRIVATE,
-        form::ENUM => bytecode::ENUMS,
-        form::NATIVE => bytecode::NATIVES,
-        form::SIGNATURE => bytecode::SIGNATURES,
-        form::CHUNK => bytecode::CHUNKS,
-        form::CONSTANT => bytecode::CONSTANTS,
-        form::CLOSE => CLOSING,
-        _ => bytecode::INSTRUCTIONS,
-    }
-}
-
-// For each table, and last the closing line, the first place where its lines may stand.
-fn low_of(kind: usize) -> u64
-    requires { kind < 11 }
-    ensures { result ≡ get_or lows kind 0 }
-{
-    match kind {
-        bytecode::HEADER => place::START,
-        bytecode::SLOTS => place::SLOTS,
-        bytecode::SHARED => place::SLOTS,
-        bytecode::PRIVATE => place::SLOTS,
-        bytecode::ENUMS => place::SLOTS,
-        bytecode::NATIVES => place::SLOTS,
-        bytecode::SIGNATURES => place::SLOTS,
-        bytecode::CHUNKS => place::SLOTS,
-        bytecode::CONSTANTS => place::CONSTANTS,
-        bytecode::INSTRUCTIONS => place::CONSTANTS,
-        _ => place::SLOTS,
-    }
-}
-
-// And the last such place.
-fn high_of(kind: usize) -> u64
-    requires { kind < 11 }
-    ensures { result ≡ get_or highs kind 0 }
-{
-    match kind {
-        bytecode::HEADER => place::START,
-        bytecode::SLOTS => place::SLOTS,
-        bytecode::SHARED => place::SHARED,
-        bytecode::PRIVATE => place::PRIVATE,
-        bytecode::ENUMS => place::ENUMS,
-        bytecode::NATIVES => place::NATIVES,
-        bytecode::SIGNATURES => place::SIGNATURES,
-        bytecode::CHUNKS => place::CHUNKS,
-        bytecode::CONSTANTS => place::CONSTANTS,
-        bytecode::INSTRUCTIONS => place::INSTRUCTIONS,
-        _ => place::INSTRUCTIONS,
-    }
-}
-
-// The place after a line of a table.
-fn place_after_row(kind: usize) -> u64
-    requires { kind < 10 }
-    ensures { result ≡ get_or nexts kind 0 }
-{
-    match kind {
-        bytecode::HEADER => place::SLOTS,
-        bytecode::SLOTS => place::SLOTS,
-        bytecode::SHARED => place::SHARED,
-        bytecode::PRIVATE => place::PRIVATE,
-        bytecode::ENUMS => place::ENUMS,
-        bytecode::NATIVES => place::NATIVES,
-        bytecode::SIGNATURES => place::SIGNATURES,
-        bytecode::CHUNKS => place::CONSTANTS,
-        bytecode::CONSTANTS => place::CONSTANTS,
-        _ => place::INSTRUCTIONS,
-    }
-}
-
-fn place_after(kind: usize, place: u64) -> u64
-    requires { kind < 11 }
-    ensures { result ≡ place_after kind place }
-{
-    if kind == CLOSING {
-        if place::CONSTANTS <= place {
-            return place::CHUNKS;
-        }
-        return place::END;
-    }
-    place_after_row(kind)
-}
-
-fn stands(place: u64, kind: usize) -> bool
-    requires { kind < 11 }
-    ensures { result ≡ within (get_or lows kind 0) (get_or highs kind 0) place }
-{
-    if place < low_of(kind) {
-        return false;
-    }
-    place <= high_of(kind)
-}
-
-// Whether an operand names a kind that a module lacks: it is a kind by the largest number that it may be. No kind has more than 8 bits.
-pub fn names_lacking(float: u8, most: u64, value: u64) -> bool
-    ensures { result ≡ (eqb most 7 && is_lacking float value) }
-{
-    if most != MOST_KIND {
-        return false;
-    }
-    if 255 < value {
-        return false;
-    }
-    value_layout::is_lacking(float, value as u8)
-}
-
-// Whether no operand of a row names a kind that a module lacks. One with floats lacks none, and is spared the loop.
-fn has_kinds(names: &[u64; 781], float: u8, row: usize, e: Entry) -> bool
-    requires { (row < 75) × (names.now ≡ name_table) }
-    ensures { ((vs : List ℕ) → Stored e.vals e.count vs → result ≡ has_kinds float (maxima_of row) vs) }
-{
-    if float != 0 {
-        return true;
-    }
-    let vals = e.vals;
-    let mut j = 0;
-    while j < 3 {
-        let most = ops::maximum(names, row, j);
-        if names_lacking(float, most, vals[j + 1]) {
-            return false;
-        }
-        j += 1;
-    }
-    true
-}
-
-// Whether a line may follow at a place. I and H of the first line are unequal, and an op names no kind that the module lacks.
-fn may_stand(names: &[u64; 781], float: u8, place: u64, e: Entry) -> bool
-    requires { (e.form < 86) × (names.now ≡ name_table) }
-    ensures { ((vs : List ℕ) → Stored e.vals e.count vs → result ≡ may_stand float place e.form vs) }
-{
-    let form = e.form;
-    let vals = e.vals;
-    let kind = kind_of(form);
-    if stands(place, kind) {
-        if form == form::MODULE {
-            return vals[6] != vals[7];
-        }
-        if form::FIRST_OP <= form {
-            return has_kinds(names, float, form - form::FIRST_OP, e);
-        }
-        return true;
-    }
-    false
-}
+// The bytes of the longest listing.
+const MOST_BYTES: usize = 65536;
 
 // The most values of a line: the two shapes and 16 parameters of a signature; and the most LOCALS.
 pub const MOST_VALUES: usize = 18;
 
 pub const MOST_LOCALS: u64 = 32;
 
-// No limit has this number.
-const NO_LIMIT: u64 = 0;
+// The largest K: an operand that may be so much is a kind of scalar.
+const MOST_KIND: u64 = 7;
 
-// The limit that a line meets by itself: a signature of more than 16 parameters, or LOCALS over 32.
-fn own_limit(e: Entry) -> u64
-    ensures { ((vs : List ℕ) → Stored e.vals e.count vs → own_limit e.form vs ≡ limit_of result) × (result ≤ 3) × (result ≡ 1 → ⊥) }
+// The largest number of so many bits.
+const MOST_8: u64 = u8::MAX as u64;
+
+const MOST_16: u64 = u16::MAX as u64;
+
+const MOST_32: u64 = u32::MAX as u64;
+
+// The numbers that a code admits.
+#[tactic(auto, unfolding(crate::specs::Scan::admitted, definition::specs::Basics::is_member, definition::specs::Basics::choose))]
+pub fn admits(code: u8, n: u64) -> bool
+    ensures { result ≡ admitted code n }
 {
-    let form = e.form;
-    let vals = e.vals;
-    let n = e.count;
-    if form == form::SIGNATURE {
-        if MOST_VALUES < n {
-            return limit::TABLE;
-        }
-        return NO_LIMIT;
+    match code {
+        sort::WIDTH => matches!(n, 1 | 2 | 4 | 8),
+        sort::FLOAT_WIDTH => matches!(n, 0 | 1 | 2 | 4 | 8),
+        sort::ADDRESS => matches!(n, 3 | 4 | 5 | 6),
+        sort::CONSTANT => matches!(n, 0 | 1 | 2 | 3 | 4 | 5 | 6 | 255),
+        sort::BITS_8 => n <= MOST_8,
+        sort::BITS_16 => n <= MOST_16,
+        sort::BITS_32 => n <= MOST_32,
+        sort::SCALAR => n <= MOST_KIND,
+        _ => n <= 3,
     }
-    if form == form::CHUNK {
-        if MOST_LOCALS < vals[1] {
-            return limit::LOCALS;
-        }
-    }
-    NO_LIMIT
 }
 
-fn wide_size(x: usize) -> u64
-    ensures { result ≡ x }
+// Whether a number comes first: a digit, and after a first 0 no other.
+#[tactic(auto, unfolding(definition::specs::Format::begins_number, definition::specs::Format::begins_digit, definition::specs::Format::is_digit))]
+fn begins_number(bytes: &[u8]) -> bool
+    ensures { result ≡ begins_number bytes.now }
 {
-    x as u64
+    matches!(bytes, [b'0'..=b'9', ..]) && !matches!(bytes, [b'0', b'0'..=b'9', ..])
+}
+
+// The number that the digits at the front give, if it has at most 32 bits, and what follows them.
+#[tactic(auto, using(crate::specs::Num::digit_laws))]
+fn digits(mut bytes: &[u8]) -> Option<(u64, &[u8])>
+    ensures { number_of result ≡ at_most 4294967295 (digits_from 0 bytes.entry.now) }
+{
+    let mut number: u32 = 0;
+    while let [digit @ b'0'..=b'9', rest @ ..] = bytes {
+        number = number
+            .checked_mul(10)?
+            .checked_add(u32::from(*digit - b'0'))?;
+        bytes = rest;
+    }
+    Some((u64::from(number), bytes))
+}
+
+// One space and a number that a code admits, and what follows them.
+#[tactic(auto, using(crate::specs::Num::number_laws))]
+fn number(bytes: &[u8], code: u8) -> Option<(u64, &[u8])>
+    ensures { number_of result ≡ number_at (admitted code) bytes.now }
+{
+    let [b' ', bytes @ ..] = bytes else {
+        return None;
+    };
+    if !begins_number(bytes) {
+        return None;
+    }
+    let (n, rest) = digits(bytes)?;
+    admits(code, n).then_some((n, rest))
+}
+
+// The closing parenthesis after the word of a shape.
+#[tactic(auto, using(crate::proofs::Texts::texts, crate::specs::Shape::closed_laws))]
+fn closed(word: u64, bytes: &[u8]) -> Option<(u64, &[u8])>
+    ensures { number_of result ≡ end_at word bytes.now }
+{
+    Some((word, bytes.strip_prefix(&words::CLOSE)?))
+}
+
+#[tactic(auto, using(crate::proofs::Texts::texts, crate::specs::Shape::top_laws))]
+fn shape_top(bytes: &[u8]) -> Option<(u64, &[u8])>
+    ensures { number_of result ≡ top_at bytes.now }
+{
+    Some((0, bytes.strip_prefix(&words::TOP)?))
+}
+
+#[tactic(auto, using(crate::proofs::Texts::texts, crate::specs::Shape::scalar_laws))]
+fn shape_scalar(bytes: &[u8]) -> Option<(u64, &[u8])>
+    ensures { number_of result ≡ scalar_at bytes.now }
+{
+    let bytes = bytes.strip_prefix(&words::SCALAR)?;
+    let (kind, bytes) = number(bytes, sort::BITS_8)?;
+    closed(1 + 4 * kind, bytes)
+}
+
+#[tactic(auto, using(crate::proofs::Texts::texts, crate::specs::Shape::flat_laws))]
+fn shape_flat(bytes: &[u8]) -> Option<(u64, &[u8])>
+    ensures { number_of result ≡ flat_at bytes.now }
+{
+    let bytes = bytes.strip_prefix(&words::FLAT)?;
+    let (kind, bytes) = number(bytes, sort::BITS_8)?;
+    let (size, bytes) = number(bytes, sort::BITS_32)?;
+    closed(2 + 4 * kind + 1024 * size, bytes)
+}
+
+// A shape with the space before it, as its word.
+#[tactic(auto, using(crate::specs::Shape::shape_laws))]
+fn shape(bytes: &[u8]) -> Option<(u64, &[u8])>
+    ensures { number_of result ≡ shape_word bytes.now }
+{
+    shape_top(bytes)
+        .or_else(|| shape_scalar(bytes))
+        .or_else(|| shape_flat(bytes))
+}
+
+// Whether the code is that of shapes, and no space comes next.
+#[tactic(auto, unfolding(crate::specs::Rows::shapes_over, definition::specs::Format::begins_with))]
+fn shapes_over(code: u8, bytes: &[u8]) -> bool
+    ensures { result ≡ shapes_over code bytes.now }
+{
+    code == sort::SHAPES && !matches!(bytes, [b' ', ..])
+}
+
+// A shape's word, or a number that the code admits.
+#[tactic(auto, unfolding(crate::specs::Rows::value_at))]
+fn value(bytes: &[u8], code: u8) -> Option<(u64, &[u8])>
+    ensures { number_of result ≡ value_at code bytes.now }
+{
+    match code {
+        sort::SHAPE | sort::SHAPES => shape(bytes),
+        _ => number(bytes, code),
+    }
+}
+
+// A line by codes: its values after those that there are, and what is left of it.
+#[tactic(auto, using(crate::proofs::Texts::texts, crate::specs::Rows::rows_laws))]
+fn scan<'a>(mut line: &'a [u8], mut codes: &[u8], values: &mut Values) -> Option<&'a [u8]>
+    ensures { Rowed (scan codes.entry.now line.entry.now) values.old result values.new }
+{
+    while let [code, rest @ ..] = codes {
+        if *code < sort::BITS_8 {
+            line = line.strip_prefix(&[*code])?;
+            codes = rest;
+        } else if shapes_over(*code, line) {
+            codes = rest;
+        } else {
+            let (value, left) = value(line, *code)?;
+            values.push(value);
+            line = left;
+            if *code != sort::SHAPES {
+                codes = rest;
+            }
+        }
+    }
+    Some(line)
+}
+
+// A line that is no op, by the form whose text it begins with.
+#[tactic(auto, using(crate::proofs::Texts::texts, crate::specs::Find::line_laws))]
+fn line_form(line: &[u8], values: &mut Values) -> Option<Form>
+    requires { Stored values.old [] }
+    ensures { Formed (whole_line line_forms line.now) result values.new }
+{
+    for form in form::LINES.iter() {
+        if let Some(rest) = line.strip_prefix(form.text()) {
+            let rest = scan(rest, form.codes(), values)?;
+            return rest.is_empty().then_some(*form);
+        }
+    }
+    None
+}
+
+// Whether an op's name ends here: before `)`, before a space and a digit, or with the line.
+#[tactic(auto, unfolding(crate::specs::OpLines::name_ends, definition::specs::Format::begins_digit, definition::specs::Format::is_digit))]
+fn name_ends(bytes: &[u8]) -> bool
+    ensures { result ≡ name_ends bytes.now }
+{
+    matches!(bytes, [] | [b')', ..] | [b' ', b'0'..=b'9', ..])
+}
+
+#[tactic(auto, using(crate::specs::OpLines::name_laws))]
+fn name_length(bytes: &[u8]) -> usize
+    ensures { result ≡ length (name_of bytes.now) }
+{
+    for i in 0..bytes.len() {
+        if name_ends(&bytes[i..]) {
+            return i;
+        }
+    }
+    bytes.len()
+}
+
+// The code of the numbers up to a maximum.
+#[tactic(auto, unfolding(crate::specs::Scan::max_code, definition::specs::Basics::choose))]
+pub fn maximum_code(m: u64) -> u8
+    ensures { result ≡ max_code m }
+{
+    match m {
+        MOST_8 => sort::BITS_8,
+        MOST_16 => sort::BITS_16,
+        MOST_32 => sort::BITS_32,
+        MOST_KIND => sort::SCALAR,
+        _ => sort::COMPOSITE,
+    }
+}
+
+// The most operands of an op.
+const MOST_OPERANDS: usize = 3;
+
+// The operands of a row.
+#[tactic(auto, using(crate::specs::OpRead::operand_laws))]
+fn operands<'a>(mut bytes: &'a [u8], row: usize, values: &mut Values) -> Option<&'a [u8]>
+    requires { row < 75 }
+    ensures { Rowed (numbers_at (maxima_of row) bytes.entry.now) values.old result values.new }
+{
+    for j in 0..MOST_OPERANDS {
+        let most = ops::maximum(row, j);
+        if most == 0 {
+            break;
+        }
+        let (value, rest) = number(bytes, maximum_code(most))?;
+        values.push(value);
+        bytes = rest;
+    }
+    Some(bytes)
+}
+
+// An op, from its name on, by the row of the name.
+#[tactic(auto, using(crate::specs::OpRead::op_laws))]
+fn op_form(bytes: &[u8], values: &mut Values) -> Option<Form>
+    requires { Stored values.old [] }
+    ensures { Formed (named_line bytes.now) result values.new }
+{
+    let (name, rest) = bytes.split_at(name_length(bytes));
+    let row = ops::find(name)?;
+    let rest = operands(rest, row, values)?;
+    (rest == words::CLOSE.as_slice()).then_some(Form::Op(row))
+}
+
+// The form of the line that the bytes say.
+#[tactic(auto, using(crate::proofs::Texts::texts, crate::specs::OpRead::form_laws))]
+fn read_form(line: &[u8], values: &mut Values) -> Option<Form>
+    requires { Stored values.old [] }
+    ensures { Formed (read_line line.now) result values.new }
+{
+    match line.strip_prefix(&words::OP) {
+        Some(rest) => op_form(rest, values),
+        None => line_form(line, values),
+    }
+}
+
+fn read_entry(line: &[u8]) -> Option<Entry>
+    ensures { Entered (read_line line.now) result }
+{
+    let mut values = Values::new();
+    let form = read_form(line, &mut values)?;
+    Some(Entry { form, values })
+}
+
+// Whether an operand names a kind that a module lacks: it is a kind by the largest number that it may be. No kind has more than 8 bits.
+#[tactic(auto, unfolding(definition::specs::Shapes::is_lacking))]
+pub fn names_lacking(float: u8, most: u64, value: u64) -> bool
+    ensures { result ≡ (eqb most 7 && is_lacking float value) }
+{
+    most == MOST_KIND && value <= MOST_8 && value_layout::is_lacking(float, value as u8)
+}
+
+// Whether no operand of a row names a kind that a module lacks. One with floats lacks none, and is spared the loop.
+fn has_kinds(float: u8, row: usize, values: &Values) -> bool
+    requires { row < 75 }
+    ensures { ((vs : List ℕ) → Stored values.now vs → result ≡ has_kinds float (maxima_of row) vs) }
+{
+    float != 0
+        || (0..MOST_OPERANDS).all(|j| !names_lacking(
+            float,
+            ops::maximum(row, j),
+            values.words[j + 1],
+        ))
+}
+
+// The values of the first line that are the trap codes I and H.
+const INDEX_TRAP: usize = 6;
+
+const HOST_TRAP: usize = 7;
+
+// Whether a line may follow at a place. I and H of the first line are unequal, and an op names no kind that the module lacks.
+#[tactic(auto, using(crate::specs::Step::stand_laws))]
+fn may_stand(float: u8, place: Place, entry: &Entry) -> bool
+    ensures { ((vs : List ℕ) → Stored entry.now.values vs → result ≡ may_stand float (place_number place) (form_number entry.now.form) vs) }
+{
+    place.allows(entry.form)
+        && match entry.form {
+            Form::Module => entry.values.words[INDEX_TRAP] != entry.values.words[HOST_TRAP],
+            Form::Op(row) => has_kinds(float, row, &entry.values),
+            _ => true,
+        }
+}
+
+// The limit that a line meets by itself: a signature of more than 16 parameters, or LOCALS over 32.
+#[tactic(auto, using(crate::specs::Step::limit_laws))]
+fn own_limit(entry: &Entry) -> Option<Limit>
+    ensures { ((vs : List ℕ) → Stored entry.now.values vs → own_limit (form_number entry.now.form) vs ≡ limit_of result) }
+{
+    match entry.form {
+        Form::Signature if MOST_VALUES < entry.values.count => Some(Limit::Table),
+        Form::Chunk if MOST_LOCALS < entry.values.words[bytecode::LOCALS] => Some(Limit::Locals),
+        _ => None,
+    }
 }
 
 // The first word of a line's row: 0 or 1 for a slot, the op's number, else how many values follow.
-fn head_word(form: usize, count: usize) -> u64
-    ensures { result ≡ head_word form count }
+#[tactic(auto, unfolding(crate::specs::Forms::head_word, definition::specs::Basics::choose))]
+fn head_word(form: Form, count: usize) -> u64
+    ensures { result ≡ head_word (form_number form) count }
 {
-    if form::FIRST_OP <= form {
-        return wide_size(form - form::FIRST_OP);
+    match form {
+        Form::Op(row) => row as u64,
+        Form::SharedSlot => 0,
+        Form::PrivateSlot => 1,
+        _ => count as u64,
     }
-    if form == form::SHARED_SLOT {
-        return 0;
-    }
-    if form == form::PRIVATE_SLOT {
-        return 1;
-    }
-    wide_size(count)
 }
 
 // The words of a line's row; a chunk's row says besides how many constants and instructions come before it.
-fn row_words(e: Entry, constants: u64, instructions: u64) -> [u64; 19]
-    ensures { ((m : Module) (vs : List ℕ) (l : Line) → Stored e.vals e.count vs → Fits l e.form vs → own_limit e.form vs ≡ none → constants ≡ length (all_consts m.chunks) → instructions ≡ length (all_ops m.chunks) → SameWords result (row_words m e.form vs)) }
+fn row_words(entry: &Entry, constants: u64, instructions: u64) -> [u64; bytecode::WORDS]
+    ensures { RowIs entry.now.form entry.now.values constants instructions result }
 {
-    let form = e.form;
-    let mut words = e.vals;
-    words[0] = head_word(form, e.count);
-    if form == form::CHUNK {
-        words[2] = constants;
-        words[3] = instructions;
-        return words;
+    let mut words = entry.values.words;
+    words[0] = head_word(entry.form, entry.values.count);
+    if let Form::Chunk = entry.form {
+        words[bytecode::FIRST_CONSTANT] = constants;
+        words[bytecode::FIRST_CODE] = instructions;
     }
     words
 }
 
-// One line, from the tables before it to the tables after it.
-fn one_line(names: &[u64; 781], t: &mut [u64], place: u64, s: &[u8]) -> Step
-    requires { (length t.old ≡ size) × (length s.now ≤ 65536) × (names.now ≡ name_table) }
-    ensures { ((n : ℕ) (q : Reader) → q.place ≡ place → Held t.old (lists q) → Sound q → StepIs n (next_line n q s.now) result t.new) × (length t.new ≡ size) }
-{
-    let e = read_entry(names, s);
-    if form::NONE <= e.form {
-        return Step::Wrong;
-    }
-    if !may_stand(names, bytecode::float_of(t), place, e) {
-        return Step::Wrong;
-    }
-    let k = kind_of(e.form);
-    if k == CLOSING {
-        return Step::On(place_after(k, place));
-    }
-    if bytecode::cap_of(k) <= t[k] {
-        return Step::Full;
-    }
-    let own = own_limit(e);
-    if own == limit::TABLE {
-        return Step::Full;
-    }
-    if own == limit::LOCALS {
-        return Step::Locals;
-    }
-    let row = row_words(e, t[bytecode::CONSTANTS], t[bytecode::INSTRUCTIONS]);
-    bytecode::append(t, k, &row);
-    Step::On(place_after(k, place))
-}
-
-// Where the line from `at` on ends: at its LF, or with the bytes.
-fn line_end(s: &[u8], at: usize) -> usize
-    requires { at ≤ length s.now }
-    ensures { LineEnd s.now at result }
-{
-    let mut i = at;
-    while i < s.len() {
-        if s[i] == b'\n' {
-            return i;
-        }
-        i += 1;
-    }
-    i
-}
-
-// No table has a row.
-fn clear(t: &mut [u64])
+// One line after so many others, from the tables before it to the tables after it, and where it leaves the reader.
+fn one_line(t: &mut [u64], lines: u64, place: Place, line: &[u8]) -> Result<Place, Refusal>
     requires { length t.old ≡ size }
-    ensures { Held t.new (lists at_start) }
+    ensures step { (q : Reader) → q.place ≡ place_number place → Held t.old (lists q) → Sound q → StepIs (next_line lines q line.now) result t.new }
+    ensures long { length t.new ≡ size }
 {
-    let mut k = 0;
-    while k < bytecode::TABLES {
-        t[k] = 0;
-        k += 1;
+    let Some(entry) = read_entry(line) else {
+        return Err(Refusal::CannotFollow(lines));
+    };
+    if !may_stand(bytecode::float_of(t), place, &entry) {
+        return Err(Refusal::CannotFollow(lines));
     }
+    let next = place.after(entry.form);
+    let Some(table) = entry.form.table() else {
+        return Ok(next);
+    };
+    if bytecode::cap_of(table) <= t[table] {
+        return Err(Refusal::LimitPassed(0, Limit::Table));
+    }
+    if let Some(limit) = own_limit(&entry) {
+        return Err(Refusal::LimitPassed(0, limit));
+    }
+    let row = row_words(&entry, t[bytecode::CONSTANTS], t[bytecode::INSTRUCTIONS]);
+    bytecode::append(t, table, &row);
+    Ok(next)
+}
+
+// The first line, and what follows its LF, if an LF ends it.
+fn first_line(bytes: &[u8]) -> Option<(&[u8], &[u8])>
+    ensures { FirstLine bytes.now result }
+{
+    let end = bytes.iter().position(|byte| *byte == b'\n')?;
+    Some((&bytes[..end], &bytes[end + 1..]))
 }
 
 // Lines from the first on, each after the tables of those before it.
-fn read_lines(names: &[u64; 781], s: &[u8], t: &mut [u64]) -> Result<(), Refusal>
-    requires { (length s.now ≤ 65536) × Held t.old (lists at_start) × (names.now ≡ name_table) }
-    ensures { ReadIs (read_all s.now) result t.new }
+#[tactic(auto, using(crate::specs::Reads::going_start))]
+fn read_lines(mut bytes: &[u8], t: &mut [u64]) -> Result<(), Refusal>
+    requires { (length bytes.now ≤ 65536) × Held t.old (lists at_start) }
+    ensures { ReadIs (read_all bytes.entry.now) result t.new }
 {
-    let mut place: u64 = place::START;
+    let mut place = Place::Start;
     let mut lines: u64 = 0;
-    let mut at = 0;
-    while at < s.len() {
-        let e = line_end(s, at);
-        if s.len() <= e {
+    while !bytes.is_empty() {
+        let Some((line, rest)) = first_line(bytes) else {
             return Err(Refusal::CannotFollow(lines));
-        }
-        let step = one_line(names, t, place, &s[at..e]);
-        match step {
-            Step::On(p) => {
-                place = p;
-                lines += 1;
-                at = e + 1;
-            }
-            Step::Wrong => {
-                return Err(Refusal::CannotFollow(lines));
-            }
-            Step::Full => {
-                return Err(Refusal::LimitPassed(0, Limit::Table));
-            }
-            Step::Locals => {
-                return Err(Refusal::LimitPassed(0, Limit::Locals));
-            }
-        }
+        };
+        place = one_line(t, lines, place, line)?;
+        lines += 1;
+        bytes = rest;
     }
-    if place == place::END {
-        return Ok(());
+    if place == Place::End {
+        Ok(())
+    } else {
+        Err(Refusal::CannotFollow(lines))
     }
-    Err(Refusal::CannotFollow(lines))
 }
 
-// Reads a listing into lent tables, whatever they hold: its module is in them, or a line cannot follow, after so many others, or the end is missing, or a limit is passed.
-pub fn read(s: &[u8], t: &mut [u64; 22232]) -> Result<(), Refusal>
-    ensures { (read_listing s.now ≡ result_of result t.new) × LeftIn result t.new }
+// Reads a listing into lent tables, whatever they hold.
+pub fn read(bytes: &[u8], t: &mut [u64; bytecode::SIZE]) -> Result<(), Refusal>
+    ensures { (read_listing bytes.now ≡ result_of result t.new) × LeftIn result t.new }
 {
-    if 65536 < s.len() {
+    if MOST_BYTES < bytes.len() {
         return Err(Refusal::LimitPassed(0, Limit::Bytes));
     }
-    clear(t);
-    let names = ops::names();
-    read_lines(&names, s, t)
+    t[..bytecode::TABLES].fill(0);
+    read_lines(bytes, t)
 }

@@ -1,4 +1,5 @@
-// What may stand at a number of a format: one byte of the format says which numbers it admits.
+// What may stand at a number of a format: one byte of the format says which numbers it admits. No enum: these bytes stand among those of texts,
+// in constant tables.
 pub const BITS_8: u8 = 128;
 
 pub const BITS_16: u8 = 129;

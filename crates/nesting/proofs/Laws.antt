@@ -1,8 +1,7 @@
 -- Laws for the proofs of the code: the part that an instruction has, and what each step means. Assumes nothing.
-use Rattle.std.proofs.Common.{◌≡◌, refl, sym, ap, ◌∙◌, subst, ◌⊎◌, inl, inr, Bool, true, false, ◌&&◌, List, ℕ, ◌-◌, ◌≤◌, ◌<◌, arith, length, T, ltb, eqb, ltb-true, ltb-false}
-use Rattle.std.proofs.Common.{eqb-true, lt-ltb, le-ltb, eq-eqb, Option as Maybe, Some, None, IsTrue}
+use Rattle.std.proofs.Common.{◌≡◌, refl, sym, ap, ◌∙◌, subst, ◌⊎◌, inl, inr, Bool, true, false, ℕ, ◌-◌, ◌≤◌, ◌<◌, arith, length, T}
+use Rattle.std.proofs.Common.{lt-ltb, le-ltb, Option as Maybe, Some, None, IsTrue}
 use Rattle.std.proofs.Math.Option.{Option, none, some}
-use borrow.Author.Tests.{eqb-false}
 use Rattle.definition.specs.Instructions.{Chunk, control_at, Control, onward, stops, returns, resets, end_if, end_loop, ends, if_to, else_to, loop_to}
 use Rattle.definition.specs.Instructions.{break_to, break_if_to}
 use Rattle.definition.specs.Nesting.{else_at, else_if, else_of, loop_target, if_target, rule_holds}
@@ -22,7 +21,7 @@ use Rattle.nesting.specs.declared.part.Part.TheVariants.{Other, If, Else, EndIf,
 use Rattle.nesting.specs.declared.place.Place.{Place}
 use Rattle.nesting.specs.declared.place.Step.{Step}
 use Rattle.nesting.specs.declared.place.Step.TheVariants.{Stay, Pop, Push}
-use Rattle.nesting.specs.Blocks.{Block, Keeps, Names, Fits}
+use Rattle.nesting.specs.Blocks.{Block, Keeps, Names}
 
 -- ── What a part says of an instruction ────────────────────────────────────────────────────
 

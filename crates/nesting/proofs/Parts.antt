@@ -1,13 +1,12 @@
 -- The part of an instruction by its code, computed once for all codes that have none. Assumes nothing.
-use Rattle.std.proofs.Common.{◌≡◌, refl, sym, ap, ◌∙◌, subst, Bool, true, false, not, ◌⊎◌, inl, inr, List, [], ◌∷◌, ℕ, ◌+◌, ◌-◌, ◌≤◌, ◌<◌, arith, T, leb, ltb, get_or, lt-ltb, le-ltb}
+use Rattle.std.proofs.Common.{◌≡◌, refl, sym, ap, ◌∙◌, subst, Bool, true, false, ◌⊎◌, inl, inr, List, [], ◌∷◌, ℕ, ◌+◌, ◌-◌, ◌≤◌, ◌<◌, arith, T, leb, get_or, lt-ltb, le-ltb}
 use Rattle.std.proofs.Common.{leb-true}
-use Rattle.definition.specs.Instructions.{control, jump_control, control_at, control_of, instr_at, Control, ends, Instr as AnyInstr}
+use Rattle.definition.specs.Instructions.{control, jump_control, control_at, control_of, instr_at, ends, Instr as AnyInstr}
 use Rattle.definition.specs.Ops.{ops, row, instr, instr_of, make_at}
-use Rattle.bytecode.specs.Tables.{all_below, at_each, cap}
+use Rattle.bytecode.specs.Tables.{all_below, at_each}
 use Rattle.bytecode.specs.Meaning.{maxima_of, table_instr_at, chunk_of, op_count, code_length, code_some, code_none}
-use Rattle.bytecode.specs.Parts.{any_instr_of, InstrIs, SpanIs}
+use Rattle.bytecode.specs.Parts.{any_instr_of, InstrIs}
 use Rattle.bytecode.specs.declared.Instr.{Instr}
-use Rattle.bytecode.specs.declared.Span.{Span}
 use Rattle.theorems.specs.Agree.{lt_or_ge}
 use Rattle.nesting.specs.Codes.{part_of, control_in, part_in, Coded, CodeIs}
 use Rattle.nesting.specs.declared.code.Code.{Code}

@@ -1,5 +1,5 @@
 -- The walk over a chunk's instructions: what holds at each, how a step keeps it, and what it gives at the end.
-use Rattle.std.proofs.Common.{◌≡◌, refl, sym, ap, ◌∙◌, subst, ◌⊎◌, inl, inr, Bool, true, false, not, ◌&&◌, List, ℕ, zero, suc, ◌+◌, ◌-◌, ◌≤◌, ◌<◌, arith, add-one, length, get_or, set}
+use Rattle.std.proofs.Common.{◌≡◌, refl, sym, ap, ◌∙◌, subst, ◌⊎◌, inl, inr, Bool, true, false, not, ◌&&◌, List, ℕ, zero, suc, ◌+◌, ◌-◌, ◌≤◌, ◌<◌, arith, add-one, below_more, length, get_or, set}
 use Rattle.std.proofs.Common.{get_or-set_same, get_or-set_other, T, ltb, lt-ltb, Result as Outcome, Ok, Err, Option as Maybe, Some, None}
 use Rattle.std.proofs.Math.Option.{Option, none, some}
 use Rattle.std.specs.Bool.{then_some}
@@ -8,7 +8,6 @@ use Rattle.definition.specs.Instructions.{Chunk, control_at}
 use Rattle.definition.specs.Nesting.{rule_holds, closer, is_after, open_blocks, first_from, first_broken, too_deep}
 use Rattle.theorems.specs.Agree.{lt_or_ge, →firsts, →not_not}
 use Rattle.nesting.proofs.BlockLaws.{order, closer_is, block_of}
-use Rattle.nesting.proofs.TopLaws.{three}
 use Rattle.nesting.proofs.Stack.{Chain, chain_top, chain_same, chain_stay, chain_push, chain_pop, open_after}
 use Rattle.nesting.specs.Codes.{Coded}
 use Rattle.nesting.specs.Steps.{Good, Here, Right}
@@ -43,12 +42,7 @@ pub record State (c : Chunk) (stack : List Open) (p h : ℕ) (found : Maybe ℕ)
   pub first : First c p found
 
 below_suc : (P : ℕ → Type 0) (p : ℕ) → ((i : ℕ) → i < p → P i) → P p → (i : ℕ) → i < suc p → P i
-below_suc P p f g i l = go (three i p)
-  where
-    go : (i < p) ⊎ ((i ≡ p) ⊎ (p < i)) → P i
-    go (inl x) = f i x
-    go (inr (inl x)) = subst P (sym x) g
-    go (inr (inr x)) = absurd (omega arith)
+below_suc P p f g i l = below_more P p f g i (omega arith)
 
 -- ── Limit 4 ───────────────────────────────────────────────────────────────────────────────
 
@@ -195,27 +189,27 @@ module _ (c : Chunk) (code : Code) (C : Coded c code) where
 
 -- ── Every chunk that has the instructions ─────────────────────────────────────────────────
 
-abbrev pub States : Code → List Open → ℕ → ℕ → Maybe ℕ → Type 0
-States code stack p h found = (c : Chunk) → Coded c code → State c stack p h found
+pub record States (code : Code) (stack : List Open) (p h : ℕ) (found : Maybe ℕ) : Type 0 where
+  pub in_chunk : (c : Chunk) → Coded c code → State c stack p h found
 
 none_at : (s : Maybe Step) (p q : ℕ) → ◌≡◌ {A = Outcome Step ℕ} (Err q) (ok_or s p) → (s ≡ None) × (q ≡ p)
 none_at None p q e = (refl, cc)
 none_at (Some s) p q e = cc
 
 -- a step that is right, at the innermost open block
-module _ (code : Code) (stack : List Open) (p h : ℕ) (found : Maybe ℕ) (S : States code stack p h found) (l : p < code.size) (s : Maybe Step)
+module _ {code : Code} {stack : List Open} {p h : ℕ} {found : Maybe ℕ} (S : States code stack p h found) (l : p < code.size) (s : Maybe Step)
     (R : Right code (open_at stack h) p s) where
   good : (x : Maybe Step) → s ≡ x → (c : Chunk) → Coded c code → Good c p (open_at stack h).closer x
-  good x e c C = subst (Good c p (open_at stack h).closer) e (R c (here c code C stack p h found (S c C) l))
+  good x e c C = subst (Good c p (open_at stack h).closer) e (R c (here c code C stack p h found (S.in_chunk c C) l))
 
   pub bads : (q : ℕ) → ◌≡◌ {A = Outcome Step ℕ} (Err q) (ok_or s p) → (c : Chunk) → Coded c code → NestingIs c (Err q)
-  bads q e c C = let n = none_at s p q e in rw n.1 (broken c code C stack p h found (S c C) l (good None n.0 c C))
+  bads q e c C = let n = none_at s p q e in rw n.1 (broken c code C stack p h found (S.in_chunk c C) l (good None n.0 c C))
 
   pub stays : s ≡ Some Stay → States code stack (p + 1) h found
-  stays e c C = stay c code C stack p h found (S c C) (good (Some Stay) e c C)
+  stays e = record { in_chunk = λ c C. stay c code C stack p h found (S.in_chunk c C) (good (Some Stay) e c C) }
 
   pub pops : s ≡ Some Pop → States code stack (p + 1) (h - 1) found
-  pops e c C = pop c code C stack p h found (S c C) l (good (Some Pop) e c C)
+  pops e = record { in_chunk = λ c C. pop c code C stack p h found (S.in_chunk c C) l (good (Some Pop) e c C) }
 
   pub pushes : (o : Open) → s ≡ Some (Push o) → h + 1 < length stack → States code (set stack (h + 1) o) (p + 1) (h + 1) (option_or found (then_some (ltb 8 (h + 1)) p))
-  pushes o e x c C = push c code C stack p h found (S c C) o x (good (Some (Push o)) e c C)
+  pushes o e x = record { in_chunk = λ c C. push c code C stack p h found (S.in_chunk c C) o x (good (Some (Push o)) e c C) }

@@ -1,5 +1,5 @@
 -- What the contracts of the steps cite.
-use Rattle.std.specs.Prelude.{◌≡◌, ℕ, ◌<◌, ◌-◌, Option, Some, None, List, get_or}
+use Rattle.std.specs.Prelude.{◌≡◌, ℕ, ◌<◌, ◌-◌, Option, Some, None}
 use Rattle.std.proofs.Math.Option.{none, some}
 use Rattle.definition.specs.Instructions.{Chunk, control_at, if_to, loop_to}
 use Rattle.definition.specs.Nesting.{else_at}

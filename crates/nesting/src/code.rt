@@ -3,13 +3,13 @@ ghost use Rattle.std.specs.Prelude.{◌+◌, ◌≤◌};
 use crate::part::Part;
 use bytecode;
 
-// The instructions of a chunk, as the tables have them.
+// The instructions of a chunk: rows of the instruction table, of which there are at most 4,096.
 #[derive(Clone, Copy)]
-pub struct Code<'a> {
-    pub tables: &'a [u64],
-    pub first: usize,
-    pub size: u16,
-    pub ghost inside: { first + size ≤ 4096 },
+pub(crate) struct Code<'a> {
+    pub(crate) tables: &'a [u64],
+    pub(crate) first: usize,
+    pub(crate) size: u16,
+    pub(crate) ghost inside: { first + size ≤ 4096 },
 }
 
 impl<'a> Code<'a> {
@@ -17,7 +17,7 @@ impl<'a> Code<'a> {
     ghost use Rattle.bytecode.specs.Meaning.{chunk_of};
     ghost use Rattle.nesting.specs.Codes.{part_in, CodeIs};
 
-    pub fn of_chunk(tables: &'a [u64], k: usize) -> Code<'a>
+    pub(crate) fn of_chunk(tables: &'a [u64], k: usize) -> Code<'a>
         requires { k < 64 }
         ensures { CodeIs tables.now k result }
     {
@@ -30,7 +30,7 @@ impl<'a> Code<'a> {
     }
 
     // The part of the instruction at p; past the chunk's end there is none.
-    pub fn part_at(&self, p: u16) -> Part
+    pub(crate) fn part_at(&self, p: u16) -> Part
         ensures { result ≡ part_in self.now p }
     {
         if p < self.size {

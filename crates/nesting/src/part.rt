@@ -8,7 +8,7 @@ use bytecode::{Instr, code};
 
 // An instruction's part in nesting, with its target.
 #[derive(Clone, Copy, PartialEq, Eq)]
-pub enum Part {
+pub(crate) enum Part {
     Other,
     If(u16),
     Else(u16),
@@ -20,7 +20,7 @@ pub enum Part {
 
 impl Part {
     // BreakIf has the part of Break.
-    pub fn of(instr: Instr) -> Part
+    pub(crate) fn of(instr: Instr) -> Part
         requires { (instr.code < 75) × (instr.a ≤ get_or (maxima_of instr.code) 0 0) }
         ensures { result ≡ part_of (control (any_instr_of instr)) }
     {

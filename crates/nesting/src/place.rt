@@ -5,15 +5,15 @@ use crate::part::Part;
 
 // An open block: where its first arm ends, where it closes, and the target of the innermost loop that is open in it, if there is one.
 #[derive(Clone, Copy)]
-pub struct Open {
-    pub middle: u16,
-    pub closer: u16,
-    pub target: Option<u16>,
+pub(crate) struct Open {
+    pub(crate) middle: u16,
+    pub(crate) closer: u16,
+    pub(crate) target: Option<u16>,
 }
 
 // What an instruction does to the stack of open blocks.
 #[derive(Clone, Copy)]
-pub enum Step {
+pub(crate) enum Step {
     Stay,
     Pop,
     Push(Open),
@@ -21,10 +21,10 @@ pub enum Step {
 
 // An instruction's place in a chunk, and the innermost block that is open there; where none is open the whole chunk stands for one.
 #[derive(Clone, Copy)]
-pub struct Place<'a> {
-    pub code: &'a Code<'a>,
-    pub inner: Open,
-    pub at: u16,
+pub(crate) struct Place<'a> {
+    pub(crate) code: &'a Code<'a>,
+    pub(crate) inner: Open,
+    pub(crate) at: u16,
 }
 
 // Of an instruction that breaks its rule there is no block and no step.
@@ -99,7 +99,7 @@ impl Place<'_> {
         })
     }
 
-    pub fn step(&self) -> Option<Step>
+    pub(crate) fn step(&self) -> Option<Step>
         ensures right { Right self.now.code.now self.now.inner self.now.at result }
         ensures pops_at_closer { result ≡ Some Step.Pop → self.now.inner.closer ≡ self.now.at }
     {

@@ -7,6 +7,7 @@ use Rattle.definition.specs.Format.{Bytes, bytes, decimal}
 use Rattle.definition.specs.Module.{Code, all_ops}
 use Rattle.definition.specs.Check.{Answer, Checked}
 use Rattle.definition.specs.Printed.{words, height_word, blind_word, print_ops, print_chunks, sizes, print_answer}
+use Rattle.definition.specs.Write.{spaced}
 use Rattle.theorems.specs.Decimal.{decimal_short}
 use Rattle.bytecode.specs.Tables.{cap}
 use Rattle.bytecode.specs.Lists.{tabulate, tabulate-length}
@@ -15,32 +16,33 @@ use Rattle.sheets.specs.Totals.{chunks_counted}
 use Rattle.text_out.specs.declared.Text.{Text}
 use Rattle.text_out.specs.Text.{with_text}
 use Rattle.text_out.proofs.Laws.{with_text_append}
-use Rattle.printed.specs.Texts.{numbered, header, line, of_sheets, acceptance, accepted_text}
+use Rattle.printed.specs.Texts.{header, line, of_sheets, acceptance, accepted_text}
 
 -- ── Words ─────────────────────────────────────────────────────────────────────────────────
 
-pub words_numbered : (w : Bytes) (ns : List ℕ) → words (w ∷ map decimal ns) ≡ w ++ (flat_map numbered ns ++ 10 ∷ [])
-unfolding words
-words_numbered w [] = refl
-words_numbered w (n ∷ ns) =
-    ap (λ (l : Bytes). w ++ (32 ∷ l)) (words_numbered (decimal n) ns ∙ sym (append_assoc (decimal n) (flat_map numbered ns) (10 ∷ [])))
+pub words_spaced : (w : Bytes) (ns : List ℕ) → words (w ∷ map decimal ns) ≡ w ++ (flat_map spaced ns ++ 10 ∷ [])
+unfolding words spaced
+words_spaced w [] = refl
+words_spaced w (n ∷ ns) =
+    ap (λ (l : Bytes). w ++ (32 ∷ l)) (words_spaced (decimal n) ns ∙ sym (append_assoc (decimal n) (flat_map spaced ns) (10 ∷ [])))
 
-pub with_more_numbers : (t : Text) (ns : List ℕ) (i : ℕ) → i < length ns → with_text t (flat_map numbered (take (i + 1) ns)) ≡ with_text (with_text t (flat_map numbered (take i ns))) (numbered (get_or ns i 0))
+pub with_more_numbers : (t : Text) (ns : List ℕ) (i : ℕ) → i < length ns → with_text t (flat_map spaced (take (i + 1) ns)) ≡ with_text (with_text t (flat_map spaced (take i ns))) (spaced (get_or ns i 0))
 with_more_numbers t ns i h =
-    ap (λ (l : List ℕ). with_text t (flat_map numbered l)) (take_more ns i 0 h)
-    ∙ ap (with_text t) (sym (flat_map_more numbered [] (take i ns) (get_or ns i 0)))
-    ∙ with_text_append t (flat_map numbered (take i ns)) (numbered (get_or ns i 0))
+    ap (λ (l : List ℕ). with_text t (flat_map spaced l)) (take_more ns i 0 h)
+    ∙ ap (with_text t) (sym (flat_map_more spaced [] (take i ns) (get_or ns i 0)))
+    ∙ with_text_append t (flat_map spaced (take i ns)) (spaced (get_or ns i 0))
 
 -- a number of 64 bits has at most 20 digits
-pub numbers_short : (ns : List ℕ) → ((i : ℕ) → get_or ns i 0 < 2 ^ 64) → length (flat_map numbered ns) ≤ 21 * length ns
+pub numbers_short : (ns : List ℕ) → ((i : ℕ) → get_or ns i 0 < 2 ^ 64) → length (flat_map spaced ns) ≤ 21 * length ns
+unfolding spaced
 numbers_short [] f = omega arith
 numbers_short (n ∷ ns) f =
-    omega (arith, length-append (decimal n) (flat_map numbered ns), decimal_short 19 n (omega (arith, f 0)), numbers_short ns (λ i. f (suc i)))
+    omega (arith, length-append (decimal n) (flat_map spaced ns), decimal_short 19 n (omega (arith, f 0)), numbers_short ns (λ i. f (suc i)))
 
 pub refused_short : (ns : List ℕ) → length ns ≤ 8 → ((i : ℕ) → get_or ns i 0 < 2 ^ 64) → length (words (bytes "refused" ∷ map decimal ns)) ≤ 73746
 unfolding bytes
 refused_short ns l f =
-    omega (arith, ap length (words_numbered (bytes "refused") ns), length-append (flat_map numbered ns) (10 ∷ []), numbers_short ns f)
+    omega (arith, ap length (words_spaced (bytes "refused") ns), length-append (flat_map spaced ns) (10 ∷ []), numbers_short ns f)
 
 pub height_none : (e : ℕ) → e < 1 → height_word e ≡ 45 ∷ []
 unfolding height_word bytes

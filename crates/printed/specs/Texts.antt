@@ -7,10 +7,6 @@ use Rattle.definition.specs.Printed.{words, height_word, blind_word, sizes, prin
 use Rattle.bytecode.specs.Meaning.{module_of}
 use Rattle.printed.specs.declared.Sheets.{Sheets}
 
--- a number with the space before it
-abbrev pub numbered : ℕ → Bytes
-numbered n = 32 ∷ decimal n
-
 -- The first line for an accepted module: its chunks and its instructions.
 unfoldable pub header : ℕ → ℕ → Bytes
 header chunks instructions = words (bytes "accepted" ∷ decimal chunks ∷ decimal instructions ∷ [])

@@ -5,10 +5,11 @@ ghost use Rattle.std.specs.Prelude.{◌≡◌, ◌∷◌, map, ◌+◌, ◌≤�
 ghost use Rattle.std.specs.List.{flat_map};
 ghost use Rattle.definition.specs.Format.{bytes, decimal};
 ghost use Rattle.definition.specs.Module.{all_ops};
+ghost use Rattle.definition.specs.Write.{spaced};
 ghost use Rattle.definition.specs.Printed.{words, height_word, blind_word, sizes, print_ops, print_chunks};
 ghost use Rattle.bytecode.specs.Meaning.{module_of};
 ghost use Rattle.text_out.specs.Text.{with_text};
-ghost use Rattle.printed.specs.Texts.{numbered, header, line, checked, accepted_text};
+ghost use Rattle.printed.specs.Texts.{header, line, checked, accepted_text};
 ghost use Rattle.printed.specs.Writes.{Holds};
 
 use bytecode;
@@ -23,21 +24,12 @@ const MOST_LINES: usize = 4097;
 
 pub const ROOM: usize = LONGEST_LINE * MOST_LINES;
 
-// A number with the space before it.
-#[tactic(auto, unfolding(text_out::specs::Text::laid, text_out::specs::Text::after_text))]
-fn put_number(text: &mut Text, n: u64)
-    ensures { text.new ≡ with_text text.old (numbered n) }
-{
-    text.byte(b' ');
-    text.decimal(n);
-}
-
 #[tactic(auto, using(crate::proofs::Lines::with_more_numbers), unfolding(text_out::specs::Text::laid, text_out::specs::Text::after_text))]
 fn put_numbers(text: &mut Text, numbers: &[u64])
-    ensures { text.new ≡ with_text text.old (flat_map numbered numbers.now) }
+    ensures { text.new ≡ with_text text.old (flat_map spaced numbers.now) }
 {
     for n in numbers {
-        put_number(text, *n);
+        text.spaced_decimal(*n);
     }
 }
 
@@ -68,7 +60,7 @@ fn put_line(text: &mut Text, k: usize, i: usize, height: u8, blind: u8)
     ensures { text.new ≡ with_text text.old (line k i height blind) }
 {
     text.decimal(k as u64);
-    put_number(text, i as u64);
+    text.spaced_decimal(i as u64);
     text.byte(b' ');
     put_height(text, height);
     text.byte(b' ');
@@ -120,8 +112,8 @@ fn put_header(text: &mut Text, chunks: usize, instructions: usize)
     ensures { text.new ≡ with_text text.old (header chunks instructions) }
 {
     text.bytes(b"accepted");
-    put_number(text, chunks as u64);
-    put_number(text, instructions as u64);
+    text.spaced_decimal(chunks as u64);
+    text.spaced_decimal(instructions as u64);
     text.byte(b'\n');
 }
 

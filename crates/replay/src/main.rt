@@ -5,8 +5,7 @@
 ghost use Rattle.std.specs.Prelude.{◌≤◌, IfOk, length};
 
 use answer::Numbers;
-use std::io::{Error, ErrorKind, Read};
-use std::str::{FromStr, Split};
+use std::io::Read;
 use std::{fmt, io};
 
 // The entries of the longest sheet: a listing has no more instructions.
@@ -23,32 +22,48 @@ const CALLS: usize = 1_000_000;
 
 // ---- lines of the list
 
-fn not_of_the_list() -> Error {
-    Error::new(ErrorKind::InvalidData, "not a line of the list")
+// A number of a list has at most one digit more than this.
+const LONG: u64 = 999_999_999_999;
+
+// The words of a line that are still to be read.
+#[derive(Clone, Copy)]
+struct Words<'a> {
+    rest: &'a [u8],
 }
 
-// The next word, which is to be a number.
-fn next_number<N: FromStr>(words: &mut Split<'_, char>) -> io::Result<N>
-where
-    N::Err: Drop,
-{
-    words
-        .next()
-        .and_then(|word| word.parse().ok())
-        .ok_or_else(not_of_the_list)
-}
-
-// The rest of the first line of an entry: how many numbers an answer has, and those.
-fn answer_of(mut words: Split<'_, char>) -> io::Result<Numbers> {
-    let count = next_number(&mut words)?;
-    let mut numbers = [0; 8];
-    for (number, word) in numbers.iter_mut().zip(words) {
-        *number = word.parse().map_err(|_| not_of_the_list())?;
+impl<'a> Words<'a> {
+    // All words of a line but the first.
+    fn after_first(line: &'a [u8]) -> Words<'a> {
+        let rest = match line.iter().position(|byte| *byte == b' ') {
+            Some(end) => &line[end + 1..],
+            None => &[],
+        };
+        Words { rest }
     }
-    Ok(Numbers {
-        count,
-        words: numbers,
-    })
+
+    // The next number, which a byte below the digits ends. Whatever the list holds is taken: where there is no digit, it is 0. std's `parse` takes numbers alone.
+    fn next_number(&mut self) -> u64 {
+        let mut number: u64 = 0;
+        while let [byte, rest @ ..] = self.rest {
+            self.rest = rest;
+            if *byte < b'0' || LONG < number {
+                break;
+            }
+            let digit = char::from(*byte).to_digit(10).unwrap_or(0);
+            number = number.saturating_mul(10).saturating_add(u64::from(digit));
+        }
+        number
+    }
+
+    // How many numbers an answer has, and those, of which eight are kept.
+    fn answer(&mut self) -> Numbers {
+        let count = self.next_number() as usize;
+        let mut words = [0; 8];
+        for word in words.iter_mut().take(count) {
+            *word = self.next_number();
+        }
+        Numbers { count, words }
+    }
 }
 
 // The first line of an entry: whether the answer is the original's, the entry's number, the bytes of the listing, the lengths of the sheets, and the answer.
@@ -62,19 +77,17 @@ struct Head {
     answer: Numbers,
 }
 
-impl FromStr for Head {
-    type Err = Error;
-
-    fn from_str(line: &str) -> io::Result<Head> {
-        let mut words = line.split(' ');
-        Ok(Head {
-            of_original: words.next() == Some("original"),
-            number: next_number(&mut words)?,
-            bytes: next_number(&mut words)?,
-            heights: next_number(&mut words)?,
-            blinds: next_number(&mut words)?,
-            answer: answer_of(words)?,
-        })
+impl From<&[u8]> for Head {
+    fn from(line: &[u8]) -> Head {
+        let mut words = Words::after_first(line);
+        Head {
+            of_original: line.starts_with(b"o"),
+            number: words.next_number(),
+            bytes: words.next_number() as usize,
+            heights: words.next_number() as usize,
+            blinds: words.next_number() as usize,
+            answer: words.answer(),
+        }
     }
 }
 
@@ -111,9 +124,9 @@ struct List<R> {
 
 impl<R: Read> List<R> {
     // Past the last line it is empty.
-    fn next_line(&mut self) -> io::Result<&str> {
+    fn next_line(&mut self) -> io::Result<&[u8]> {
         let length = read_line(&mut self.input, &mut self.line)?;
-        str::from_utf8(&self.line[..length]).map_err(|_| not_of_the_list())
+        Ok(&self.line[..length])
     }
 
     // The first line of the next entry; past the last one there is none.
@@ -122,18 +135,27 @@ impl<R: Read> List<R> {
         if line.is_empty() {
             return Ok(None);
         }
-        Ok(Some(line.parse()?))
+        Ok(Some(Head::from(line)))
     }
 
     // Whether a sheet begins with so many entries, those of the next line, and has zeros after them. For no entries there is no line.
     fn is_next_sheet(&mut self, sheet: &[u8], entries: usize) -> io::Result<bool> {
-        let (front, rest) = sheet.split_at(entries.min(sheet.len()));
-        let rest_right = rest.iter().all(|entry| *entry == 0);
+        let rest_right = sheet.iter().skip(entries).all(|entry| *entry == 0);
         if entries == 0 {
             return Ok(rest_right);
         }
-        let listed = self.next_line()?.split(' ').map(|word| word.parse().ok());
-        Ok(rest_right && listed.eq(front.iter().map(|entry| Some(*entry))))
+        let mut words = Words {
+            rest: self.next_line()?,
+        };
+        let Some(front) = sheet.get(..entries) else {
+            return Ok(false);
+        };
+        for entry in front {
+            if words.next_number() != u64::from(*entry) {
+                return Ok(false);
+            }
+        }
+        Ok(rest_right)
     }
 }
 
@@ -148,8 +170,8 @@ fn is_right<R: Read>(rt: &impl Print, list: &mut List<R>, head: &Head) -> io::Re
     let listing = &mut listing[..head.bytes.min(LISTING)];
     let heights = &mut heights[..head.heights.min(SHEET)];
     let blinds = &mut blinds[..head.blinds.min(SHEET)];
-    list.input.read_exact(listing)?;
-    let found = Numbers::from(typed_check::typed_check(listing, heights, blinds));
+    let read = reading::read_full(&mut list.input, listing)?;
+    let found = Numbers::from(typed_check::typed_check(&listing[..read], heights, blinds));
     let answer_right = found.count == head.answer.count && found.words == head.answer.words;
     if !answer_right {
         println!(rt; "call {number}: another answer")?;

@@ -1,8 +1,3 @@
 pub mod Tests
-pub mod Signed
 pub mod Rules
-pub mod Calls
-pub mod Steps
 pub mod Codes
-pub mod Numbers
-pub mod Looks

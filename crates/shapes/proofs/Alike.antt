@@ -1,19 +1,21 @@
 -- More elements than places: all are alike exactly where no place lies inside them.
 -- Assumes nothing.
-use mathlib.Core.Path.{◌≡◌, refl, sym, ap, ap₂, subst, ◌∙◌}
+use mathlib.Core.Path.{◌≡◌, refl, sym, ap, ap₂, ◌∙◌}
 use mathlib.Core.Bool.{Bool, true, false, ◌&&◌}
-use mathlib.Core.Logic.{◌⊎◌, inl, inr, ⊎_elim}
+use mathlib.Core.Logic.{⊎_elim}
 use mathlib.Core.List.{List, [], ◌∷◌}
 use Prim.Native.Nat.{ℕ, zero, suc, ◌+◌, ◌*◌, ◌-◌, ◌≤◌, ◌<◌}
 use native.Mathlib.Omega.{arith}
-use borrow.Author.Tests.{eq-eqb, ne_eqb, le-leb, lt-leb, le-ltb, lt-ltb}
-use lib.Dec.{T, leb, ltb, eqb}
-use lib.ListN.{length, take}
-use lib.Seq.{length-take-le}
+use borrow.Author.Tests.{le-leb, lt-leb, le-ltb, lt-ltb}
+use lib.Dec.{leb, ltb, eqb}
+use lib.ListN.{length}
+use Rattle.std.proofs.lemmas.Bool.{cases_lt, and_parts}
+use Rattle.std.proofs.lemmas.Bool.Decides.{same_from_decides, Decides-eqb}
+use Rattle.shapes.proofs.Held.{list_sound}
+use Rattle.std.specs.List.{list_all, range_with_len}
 use Rattle.definition.specs.Basics.{saturating_add}
 use Rattle.definition.specs.Shapes.{same_places}
 use Rattle.definition.specs.Effects.{keep_if, places_within, elements_alike}
-use Rattle.shapes.proofs.Lists.{lt_or_ge}
 use Rattle.shapes.proofs.Text.{sum_fits, within_short}
 
 -- ── Counted places ───────────────────────────────────────────────────────────────────────
@@ -44,7 +46,7 @@ one_split a b o h =
     ⊎_elim (λ (u : o < a). rw (le-leb 0 o (omega arith), lt-ltb o b (omega arith), lt-ltb o a u, lt-leb a o u))
     (λ (u : a ≤ o).
     ⊎_elim (λ (v : o < b). rw (le-leb 0 o (omega arith), lt-ltb o b v, le-ltb o a u, le-leb a o u))
-    (λ (v : b ≤ o). rw (le-leb 0 o (omega arith), le-ltb o b v, le-ltb o a u, le-leb a o u)) (lt_or_ge o b)) (lt_or_ge o a)
+    (λ (v : b ≤ o). rw (le-leb 0 o (omega arith), le-ltb o b v, le-ltb o a u, le-leb a o u)) (cases_lt o b)) (cases_lt o a)
 
 tally_split : (a b : ℕ) (os : List ℕ) → a ≤ b → tally 0 b os ≡ tally 0 a os + tally a b os
 tally_split a b [] h = refl
@@ -62,21 +64,6 @@ split a n os h =
     ∙ ap₂ (λ (x y : ℕ). x + y) (sym (within-counts 0 a a os (sym (sum_fits 0 a (omega arith)) ∙ omega arith))) (sym (within-counts a n (a + n) os (sym (sum_fits a n h))))
 
 -- ── Alike ────────────────────────────────────────────────────────────────────────────────
-
-and_left : (a b : Bool) → a && b ≡ true → a ≡ true
-and_left true b e = refl
-and_left false b e = e
-
-and_right : (a b : Bool) → a && b ≡ true → b ≡ true
-and_right true b e = e
-and_right false b e = absurd (subst T (sym e) tt)
-
-same_length : (xs ys : List ℕ) → same_places xs ys ≡ true → length xs ≡ length ys
-unfolding same_places
-same_length [] [] e = refl
-same_length [] (y ∷ ys) e = absurd (subst T (sym e) tt)
-same_length (x ∷ xs) [] e = absurd (subst T (sym e) tt)
-same_length (x ∷ xs) (y ∷ ys) e = ap suc (same_length xs ys (and_right (eqb x y) (same_places xs ys) e))
 
 same_empty : (xs ys : List ℕ) → length xs ≡ 0 → length ys ≡ 0 → same_places xs ys ≡ true
 unfolding same_places
@@ -99,9 +86,9 @@ alike_counts zero n os h a =
     tally_none (o ∷ os) = rw (le-leb 0 o (omega arith), le-ltb o 0 (omega arith), tally_none os)
 alike_counts (suc e) n os h a =
     let w : suc e * n ≡ e * n + n = omega arith in
-    let b : same_places (places_within (e * n) n os) (places_within 0 n os) ≡ true = and_left (same_places (places_within (e * n) n os) (places_within 0 n os)) (elements_alike e n os) a in
-    let l : length (places_within (e * n) n os) ≡ length (places_within 0 n os) = same_length _ _ b in
-    let k : length (places_within 0 (e * n) os) ≡ e * length (places_within 0 n os) = alike_counts e n os (omega arith) (and_right (same_places (places_within (e * n) n os) (places_within 0 n os)) (elements_alike e n os) a) in
+    let b : same_places (places_within (e * n) n os) (places_within 0 n os) ≡ true = (and_parts (same_places (places_within (e * n) n os) (places_within 0 n os)) (elements_alike e n os) a).0 in
+    let l : length (places_within (e * n) n os) ≡ length (places_within 0 n os) = ap length (list_sound _ _ b) in
+    let k : length (places_within 0 (e * n) os) ≡ e * length (places_within 0 n os) = alike_counts e n os (omega arith) (and_parts (same_places (places_within (e * n) n os) (places_within 0 n os)) (elements_alike e n os) a).1 in
     let s : length (places_within 0 (e * n + n) os) ≡ length (places_within 0 (e * n) os) + length (places_within (e * n) n os) = split (e * n) n os (omega arith) in
     ap (λ (z : ℕ). length (places_within 0 z os)) w ∙ omega arith
 
@@ -130,30 +117,40 @@ times_less : (e l t : ℕ) → e * l ≤ t → t < e → l ≡ 0
 times_less e zero t h g = refl
 times_less e (suc l) t h g = absurd (let w : e * suc l ≡ e * l + e = omega arith in omega arith)
 
-true_or_false : (b : Bool) → (b ≡ true) ⊎ (b ≡ false)
-true_or_false true = inl refl
-true_or_false false = inr refl
-
 -- The law: more elements than places are alike exactly where no place lies inside them.
 pub alike_few : (e n : ℕ) (os : List ℕ) → length os < e → e * n ≤ 4294967295 → eqb (length (places_within 0 (e * n) os)) 0 ≡ elements_alike e n os
 alike_few e n os g h =
-    ⊎_elim
-    (λ (a : elements_alike e n os ≡ true).
-    let k : length (places_within 0 (e * n) os) ≡ e * length (places_within 0 n os) = alike_counts e n os h a in
-    let q : length (places_within 0 (e * n) os) ≤ length os = within_short 0 (e * n) os in
-    let z : length (places_within 0 n os) ≡ 0 = times_less e (length (places_within 0 n os)) (length os) (omega arith) g in
-    let y : e * length (places_within 0 n os) ≡ 0 = ap (λ (l : ℕ). e * l) z ∙ omega arith in
-    eq-eqb (length (places_within 0 (e * n) os)) 0 (k ∙ y) ∙ sym a)
-    (λ (a : elements_alike e n os ≡ false).
-    ne_eqb (length (places_within 0 (e * n) os)) 0
-    (λ z. absurd (subst T (sym (empty_alike e n os h (first_empty e n os (omega arith) h z) z) ∙ a) tt))
-    ∙ sym a)
-    (true_or_false (elements_alike e n os))
+    same_from_decides _ _ (Decides-eqb (length (places_within 0 (e * n) os)) 0) (
+      λ a.
+          let k : length (places_within 0 (e * n) os) ≡ e * length (places_within 0 n os) = alike_counts e n os h a in
+          let q : length (places_within 0 (e * n) os) ≤ length os = within_short 0 (e * n) os in
+          let z : length (places_within 0 n os) ≡ 0 = times_less e (length (places_within 0 n os)) (length os) (omega arith) g in
+          k ∙ ap (λ (l : ℕ). e * l) z ∙ omega arith,
+      λ z. empty_alike e n os h (first_empty e n os (omega arith) h z) z,
+    )
 
--- the same of a count of held places
-pub alike_none_inside : (e n size d : ℕ) (ps q : List ℕ) → n < e → n ≤ 16 → length ps ≡ 16 → d ≤ 16 → length q ≡ 16 → e * size < 4294967296
-    → take d q ≡ places_within 0 (e * size) (take n ps) → eqb d 0 ≡ elements_alike e size (take n ps)
-alike_none_inside e n size d ps q g h l k m b f =
-    let i : length (take n ps) ≡ n = length-take-le n ps (omega arith) in
-    let j : length (take d q) ≡ d = length-take-le d q (omega arith) in
-    ap (λ (z : ℕ). eqb z 0) (sym j ∙ ap length f) ∙ alike_few e size (take n ps) (omega arith) (omega arith)
+-- ── In turn ──────────────────────────────────────────────────────────────────────────────
+
+and_swap : (x y z : Bool) → x && (y && z) ≡ y && (x && z)
+and_swap true true z = refl
+and_swap true false z = refl
+and_swap false true z = refl
+and_swap false false z = refl
+
+all_last : (test : ℕ → Bool) (a n : ℕ) → list_all test (range_with_len a (suc n)) ≡ test (a + n) && list_all test (range_with_len a n)
+all_last test a zero = ap (λ (k : ℕ). test k && true) (let e : a ≡ a + 0 = omega arith in e)
+all_last test a (suc n) =
+    ap (λ (b : Bool). test a && b) (all_last test (a + 1) n)
+    ∙ and_swap (test a) (test (a + 1 + n)) (list_all test (range_with_len (a + 1) n))
+    ∙ ap (λ (k : ℕ). test k && (test a && list_all test (range_with_len (a + 1) n))) (let e : a + 1 + n ≡ a + suc n = omega arith in e)
+
+-- the law for a chain over the elements' numbers
+pub all_alike : (e n : ℕ) (os first : List ℕ) → first ≡ places_within 0 n os
+    → list_all (λ (k : ℕ). same_places (places_within (k * n) n os) first) (range_with_len 0 e) ≡ elements_alike e n os
+unfolding elements_alike
+all_alike zero n os first f = refl
+all_alike (suc e) n os first f =
+    all_last (λ (k : ℕ). same_places (places_within (k * n) n os) first) 0 e
+    ∙ ap₂ (λ (a b : Bool). a && b)
+    (ap₂ (λ (k : ℕ) (l : List ℕ). same_places (places_within (k * n) n os) l) (let q : 0 + e ≡ e = omega arith in q) f)
+    (all_alike e n os first f)

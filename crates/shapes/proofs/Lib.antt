@@ -1,5 +1,5 @@
 pub mod Lists
-pub mod Counts
+pub mod Held
 pub mod Joins
 pub mod Text
 pub mod Alike

@@ -1,24 +1,26 @@
 -- What the shapes and values of the code stand for: shapes of the definition.
-use Rattle.std.specs.Prelude.{ℕ, Bool, true, false, List, take, leb}
+use Rattle.std.specs.Prelude.{ℕ, Bool, true, false, List, take, Option as Maybe, Some, None}
 use Rattle.std.proofs.Math.Option.{Option, none, some}
-use Rattle.definition.specs.Basics.{choose}
 use Rattle.definition.specs.Shapes.{Shape as AnyShape, unknown, scalar, composite}
 use Rattle.shapes.specs.declared.Shape.{Shape}
 use Rattle.shapes.specs.declared.Shape.TheVariants.{Unknown, Scalar, Composite}
+use Rattle.shapes.specs.declared.places.Places.{Places}
 use Rattle.shapes.specs.declared.Value.{Value}
 
--- the first where the test holds, else the second
-abbrev pub pick : Bool → Option (List ℕ) → Option (List ℕ) → Option (List ℕ)
-pick true a b = a
-pick false a b = b
+-- the places, first to last
+abbrev pub list_of : Places → List ℕ
+list_of p = take p.count p.at
 
--- a count of at most 16 says how many of the places count, any other that they are unknown
-unfoldable pub places_of : ℕ → List ℕ → Option (List ℕ)
-places_of n ps = pick (leb n 16) (some (take n ps)) none
+-- the places, where they are known
+unfoldable pub places_of : Maybe Places → Option (List ℕ)
+places_of None = none
+places_of (Some p) = some (list_of p)
 
--- how many places such a count says
-unfoldable pub count_of : ℕ → ℕ
-count_of n = choose (leb n 16) n 0
+-- whether it is a composite
+abbrev pub is_composite : Shape → Bool
+is_composite Unknown = false
+is_composite (Scalar k) = false
+is_composite (Composite k n) = true
 
 -- only a composite has places
 unfoldable pub shape_of : Shape → Option (List ℕ) → AnyShape
@@ -32,4 +34,11 @@ plain_of s = shape_of s none
 
 -- a shape with its places
 abbrev pub value_of : Value → AnyShape
-value_of v = shape_of v.shape (places_of v.known v.places)
+value_of v = shape_of v.shape (places_of v.places)
+
+-- whether it has places that are known
+unfoldable pub has_places : AnyShape → Bool
+has_places unknown = false
+has_places (scalar k) = false
+has_places (composite k n none) = false
+has_places (composite k n (some os)) = true

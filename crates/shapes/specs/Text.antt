@@ -1,36 +1,32 @@
--- Text places held in sixteen numbers with a count, and what the functions over them answer.
-use Rattle.std.specs.Prelude.{ℕ, ◌≤◌, ◌<◌, ◌≡◌, Bool, true, false, List, [], ◌++◌, eqb, length, take}
+-- Text places that are added to those that are held, and what the functions over them answer.
+use Rattle.std.specs.Prelude.{ℕ, ◌<◌, ◌≡◌, List, [], ◌++◌, eqb, length, Option as Maybe, Some, None, Result, Ok, Err, ⊤}
 use Rattle.std.proofs.Math.Option.{Option, none, some}
 use Rattle.definition.specs.Shapes.{Shape as AnyShape, unknown, scalar, composite}
 use Rattle.definition.specs.Instructions.{Chunk}
 use Rattle.definition.specs.Effects.{width, keep_if, shift}
-use Rattle.shapes.specs.declared.Places.{Places}
-use Rattle.shapes.specs.declared.Packed.{Packed}
-use Rattle.shapes.specs.declared.Packed.TheVariants.{Bytes, NotKnown}
-use Rattle.shapes.specs.declared.Count.{Count}
-use Rattle.shapes.specs.declared.Count.TheVariants.{Known, Many, Open}
-use Rattle.shapes.specs.declared.Built.{Built}
+use Rattle.shapes.specs.declared.places.ManyPlaces.{ManyPlaces}
+use Rattle.shapes.specs.declared.places.Places.{Places}
+use Rattle.shapes.specs.Model.{places_of}
 
--- A count to 16 says how many of the sixteen are the list; 17, that the list is longer than 16.
-pub record Holds (n : ℕ) (ps : List ℕ) (l : List ℕ) : Type 0 where
-  pub bound : n ≤ 17
-  pub few : n ≤ 16 → l ≡ take n ps
-  pub many : 16 < n → 16 < length l
+-- what is held after more places: all, or there are more than sixteen
+abbrev pub Adds : List ℕ → List ℕ → Result ⊤ ManyPlaces → List ℕ → Type 0
+Adds held more (Ok done) after = after ≡ held ++ more
+Adds held more (Err many) after = 16 < length (held ++ more)
+
+-- Places that were added one after another, with what all the additions say: those that are held are the list, or the list is longer than 16.
+abbrev pub Holds : Result ⊤ ManyPlaces → List ℕ → List ℕ → Type 0
+Holds (Ok done) held l = held ≡ l
+Holds (Err many) held l = 16 < length l
+
+-- what the places of a new composite are: so many, unknown, or more than sixteen
+unfoldable pub Means : Result (Maybe Places) ManyPlaces → Option (List ℕ) → Type 0
+Means (Ok places) t = t ≡ places_of places
+Means (Err many) t = (l : List ℕ) × (t ≡ some l) × (16 < length l)
 
 -- bytes, where they are known
-unfoldable pub packed_of : Packed → Option ℕ
-packed_of (Bytes n) = some n
-packed_of NotKnown = none
-
--- what the places of a new composite are: so many, more than sixteen, or unknown
-unfoldable pub Counted : Count → List ℕ → Option (List ℕ) → Type 0
-Counted (Known n) ps t = (n ≤ 16) × (t ≡ some (take n ps))
-Counted Many ps t = (l : List ℕ) × (t ≡ some l) × (16 < length l)
-Counted Open ps t = t ≡ none
-
--- the same, of the answer
-abbrev pub Means : Built → Option (List ℕ) → Type 0
-Means b t = Counted b.count b.places t
+unfoldable pub packed_of : Maybe ℕ → Option ℕ
+packed_of None = none
+packed_of (Some n) = some n
 
 -- the bytes of one element of a packed body
 unfoldable pub bytes : Chunk → AnyShape → Option ℕ
@@ -45,8 +41,7 @@ own at (scalar k) = some (keep_if (eqb k 6) at [])
 own at (composite k m none) = none
 own at (composite k m (some os)) = some (shift at os)
 
--- r holds what p holds, and the places of the element x at `at`; or x has unknown places
-abbrev pub Took : ℕ → AnyShape → Places → Places → Bool → Type 0
-Took at x p r true = own at x ≡ none
-Took at x p r false =
-    (os : List ℕ) × (own at x ≡ some os) × (r.count ≤ 17) × ((l : List ℕ) → Holds p.count p.at l → Holds r.count r.at (l ++ os))
+-- what is held after the places of the element x at `at`; none where x has unknown places
+abbrev pub Took : ℕ → AnyShape → List ℕ → Maybe (Result ⊤ ManyPlaces) → List ℕ → Type 0
+Took at x held None after = own at x ≡ none
+Took at x held (Some added) after = (os : List ℕ) × (own at x ≡ some os) × Adds held os added after

@@ -110,6 +110,6 @@ module _ (t : List ℕ) (k first count p : ℕ) (f : first ≡ first_op t k) (n 
   unfolding instr_at
   no_instr h = code_none t k p (omega arith)
 
-  -- what is read there, and where it leads
-  pub leads_here : (r : Instr) → InstrIs t (first + p) r → control (table_instr_at t (first + p)) ≡ leads r.code r.a
-  leads_here r i = ap control (sym i.same) ∙ control_code r i.code_low
+-- what is read there, and where it leads
+pub leads_here : (t : List ℕ) (p : ℕ) (r : Instr) → InstrIs t p r → control (table_instr_at t p) ≡ leads r.code r.a
+leads_here t p r i = ap control (sym i.same) ∙ control_code r i.code_low

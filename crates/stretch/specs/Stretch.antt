@@ -1,23 +1,23 @@
 -- A stretch of instructions that lead straight onward, examined one after the other.
-use Rattle.std.specs.Prelude.{ℕ, suc, ◌+◌, ◌-◌, ◌≤◌, ◌<◌, ◌≡◌, Bool, true, false, ◌||◌, List, [], ◌∷◌, get_or, set, eqb, ltb}
+use Rattle.std.specs.Prelude.{ℕ, suc, ◌+◌, ◌-◌, ◌≤◌, ◌<◌, ◌≡◌, Bool, true, false, ◌||◌, List, [], ◌∷◌, get_or, set, eqb, ltb, Result as Outcome, Ok, Err}
 use Rattle.definition.specs.Basics.{refused}
 use Rattle.definition.specs.Instructions.{Control, control, onward, stops, returns, resets, end_if, end_loop, if_to, else_to, loop_to, break_to, break_if_to}
 use Rattle.definition.specs.Walk.{State as AnyState, Sheets, Breaks as AnyBreaks, Walker, walk_instr, mark_blind}
-use Rattle.bytecode.specs.Meaning.{chunk_of, op_at, table_instr_at}
+use Rattle.bytecode.specs.Meaning.{op_at, table_instr_at}
 use Rattle.frame.specs.declared.State.{State}
 use Rattle.frame.specs.Model.{state_of}
-use Rattle.rules.specs.declared.Ctx.{Ctx}
-use Rattle.answer.specs.Answer.{refusal, is_none}
-use Rattle.rules.specs.Answers.{values_of}
-use Rattle.stretch.specs.declared.Ran.{Ran}
+use Rattle.rules.specs.declared.chunk.Context.{Context}
+use Rattle.answer.specs.declared.Refusal.{Refusal}
+use Rattle.answer.specs.Answer.{fields}
+use Rattle.rules.specs.Answers.{chunk_in}
 
 -- the number of a code that leads onward and opens nothing
 unfoldable pub straight : ℕ → Bool
 straight code = ltb code 64 || (eqb code 72 || eqb code 73)
 
 -- the instruction at ip leads straight onward
-abbrev pub Straight : List ℕ → Ctx → ℕ → Type 0
-Straight t x ip = straight (op_at t (x.first + ip)).code ≡ true
+abbrev pub Straight : Context → ℕ → Type 0
+Straight x ip = straight (op_at x.tables.now (x.first + ip)).code ≡ true
 
 -- where an instruction leads, from its code and first operand
 unfoldable pub leads : ℕ → ℕ → Control
@@ -36,21 +36,27 @@ unfoldable pub marked : ℕ → ℕ → Bool → Sheets → Sheets
 marked at h b sh = record { heights = set sh.heights at (suc h); blinds = mark_blind b at sh.blinds }
 
 -- A walk of the instructions from start up to end that takes one instruction after the other, as the definition's does.
-abbrev pub Unfolds : List ℕ → Ctx → ℕ → ℕ → ℕ → Walker → Type 0
-Unfolds t x start end floor w =
+abbrev pub Unfolds : Context → ℕ → ℕ → ℕ → Walker → Type 0
+Unfolds x start end floor w =
     (ip : ℕ) → start ≤ ip → ip < end → (s : AnyState) (b : AnyBreaks) (sh : Sheets) →
-    w ip end floor s b sh ≡ walk_instr (chunk_of t x.chunk) w ip end floor s b sh (table_instr_at t (x.first + ip)) (control (table_instr_at t (x.first + ip)))
+    w ip end floor s b sh ≡ walk_instr (chunk_in x) w ip end floor s b sh (table_instr_at x.tables.now (x.first + ip)) (control (table_instr_at x.tables.now (x.first + ip)))
 
 -- Such a walk comes from start, a state and sheets to ip and others.
-abbrev pub Comes : List ℕ → Ctx → ℕ → ℕ → ℕ → AnyState → Sheets → ℕ → AnyState → Sheets → Type 0
-Comes t x start end floor s sh ip u sh' = (w : Walker) → Unfolds t x start end floor w → (b : AnyBreaks) → w start end floor s b sh ≡ w ip end floor u b sh'
+abbrev pub Comes : Context → ℕ → ℕ → ℕ → AnyState → Sheets → ℕ → AnyState → Sheets → Type 0
+Comes x start end floor s sh ip u sh' = (w : Walker) → Unfolds x start end floor w → (b : AnyBreaks) → w start end floor s b sh ≡ w ip end floor u b sh'
 
--- The walk of straight instructions from start on: it comes to `next`, or is refused. Where it is not, it has passed the first, if that is straight.
-pub record RanIs (t : List ℕ) (x : Ctx) (start end floor : ℕ) (s : State) (sh : Sheets) (r : Ran) (u : State) (sh' : Sheets) : Type 0 where
-  pub from : start ≤ r.next
-  pub to : r.next ≤ end
-  pub low : u.height ≤ 64
-  pub moved : is_none (refusal r.verdict) ≡ true → start < end → Straight t x start → start < r.next
-  pub passed : is_none (refusal r.verdict) ≡ true → Comes t x start end floor (state_of x.locals s) sh r.next (state_of x.locals u) sh'
-  pub refused_there : is_none (refusal r.verdict) ≡ false → (w : Walker) → Unfolds t x start end floor w → (b : AnyBreaks) →
-      w start end floor (state_of x.locals s) b sh ≡ refused (values_of (refusal r.verdict))
+-- The walk has come from start to `next`, a state and sheets. It has passed the first instruction, if that is straight.
+pub record Passes (x : Context) (start end floor : ℕ) (s : State) (sh : Sheets) (next : ℕ) (u : State) (sh' : Sheets) : Type 0 where
+  pub from : start ≤ next
+  pub to : next ≤ end
+  pub moved : start < end → Straight x start → start < next
+  pub came : Comes x start end floor (state_of x.locals s) sh next (state_of x.locals u) sh'
+
+-- The walk from start, a state and sheets is refused.
+abbrev pub Stops : Context → ℕ → ℕ → ℕ → AnyState → Sheets → Refusal → Type 0
+Stops x start end floor s sh r = (w : Walker) → Unfolds x start end floor w → (b : AnyBreaks) → w start end floor s b sh ≡ refused (fields r)
+
+-- The walk of straight instructions from start on: it comes to where it stopped, or is refused.
+abbrev pub RanIs : Context → ℕ → ℕ → ℕ → State → Sheets → Outcome ℕ Refusal → State → Sheets → Type 0
+RanIs x start end floor s sh (Ok next) u sh' = Passes x start end floor s sh next u sh'
+RanIs x start end floor s sh (Err r) u sh' = Stops x start end floor (state_of x.locals s) sh r

@@ -2,9 +2,12 @@
 // also where the buffer has no room for it.
 #![tactic(auto)]
 
-ghost use Rattle.std.specs.Prelude.{◌≡◌, [], ◌∷◌};
+ghost use Rattle.std.specs.Prelude.{◌≡◌, [], ◌∷◌, IsOk};
 ghost use Rattle.definition.specs.Format.{decimal};
+ghost use Rattle.definition.specs.Write.{spaced};
 ghost use Rattle.text_out.specs.Text.{started, with_text, text_length};
+
+use std::fmt;
 
 #[derive(Drop)]
 pub struct Text<'a> {
@@ -31,10 +34,11 @@ impl<'a> Text<'a> {
     pub fn byte(&mut self, b: u8)
         ensures { self.new ≡ with_text self.old (b ∷ []) }
     {
-        if self.at < self.out.len() {
-            self.out[self.at] = b;
+        let at = self.at;
+        if at < self.out.len() {
+            self.out[at] = b;
         }
-        self.at = self.at.saturating_add(1);
+        self.at = at.saturating_add(1);
     }
 
     #[tactic(auto, using(crate::proofs::Laws::with_text_more), unfolding(crate::specs::Text::laid, crate::specs::Text::after_text))]
@@ -55,5 +59,28 @@ impl<'a> Text<'a> {
             self.decimal(n / 10);
         }
         self.byte(b'0' + (n % 10) as u8);
+    }
+
+    // A number with the space before it.
+    #[tactic(auto, unfolding(definition::specs::Write::spaced, crate::specs::Text::laid, crate::specs::Text::after_text))]
+    pub fn spaced_decimal(&mut self, n: u64)
+        ensures { self.new ≡ with_text self.old (spaced n) }
+    {
+        self.byte(b' ');
+        self.decimal(n);
+    }
+}
+
+// No write fails. The contract of `write!` does not say so, but only what was written where it gives Ok: so the methods above are for callers that promise
+// a text, and this is for those that promise none.
+impl fmt::Write for Text<'_> {
+    ghost write_str_gives = { λ before text after. after ≡ with_text before text };
+
+    fn write_str(&mut self, text: &str) -> fmt::Result
+        ensures ok { IsOk result → self.new ≡ with_text self.old text.now }
+        ensures never_fails { IsOk result }
+    {
+        self.bytes(text.as_bytes());
+        Ok(())
     }
 }

@@ -23,16 +23,12 @@ use Rattle.listing.specs.Answer.{StandsIn}
 use Rattle.sheets.specs.Totals.{chunk_within}
 use Rattle.nesting.specs.Chunks.{fine}
 use Rattle.answer.specs.Answer.{numbers, refused_numbers, found, fields, with_chunk, refusal}
-use Rattle.answer.specs.declared.Verdict.TheVariants as case
 use Rattle.std.specs.Prelude.{Result as Outcome, Ok, Err}
 use Rattle.answer.specs.declared.Refused.{Refused}
 use Rattle.rules.specs.Answers.{values_of}
-use Rattle.walk.specs.declared.Walk.{Walk}
-use Rattle.walk.specs.declared.Walk.TheVariants as W
-use Rattle.blocks.specs.Outcomes.{numbers as walk_numbers}
 use Rattle.walk.specs.Ready.{Roomy, results_of}
 use Rattle.stretch.specs.Stretch.{sheets_of}
-use Rattle.typed_check.specs.Equal.{refused_in, refused_by, tests_of}
+use Rattle.typed_check.specs.Equal.{tests_of}
 
 -- ── The tests before the walk ─────────────────────────────────────────────────────────────
 
@@ -57,31 +53,12 @@ unfolding run first pass ◌>>=◌
 run_good none l cs z e = then_good (first (nesting_test cs) l) (walk_all 0 cs) z e
 run_good (some q) l cs z e = absurd (no_some e)
 
--- ── Refusals of the walk have numbers ─────────────────────────────────────────────────────
+-- ── The walk ──────────────────────────────────────────────────────────────────────────────
 
-abbrev Numbered : Result Sheets → Type 0
-Numbered (ok sh) = Unit {0}
-Numbered (refused []) = ⊥
-Numbered (refused (n ∷ fields)) = Unit {0}
-
-numbered_on : (k size : ℕ) (m : Result Walked) (f : Walked → Result Sheets) → ((r : List ℕ) → m ≡ refused r → T (known_walk size r)) →
-    ((w : Walked) → Numbered (f w)) → Numbered (in_chunk k m >>= f)
-unfolding in_chunk ◌>>=◌ known_walk
-numbered_on k size (ok w) f h g = g w
-numbered_on k size (refused []) f h g = h [] refl
-numbered_on k size (refused (n ∷ fields)) f h g = tt
-
-walk_numbered : (k : ℕ) (cs : List Chunk) (sh : Sheets) → Each Nested cs → Numbered (walk_all k cs sh)
-unfolding walk_all
-walk_numbered k [] sh N = tt
-walk_numbered k (c ∷ cs) sh (both N Ns) =
-    numbered_on k (length c.code) (walk_chunk c sh) _ (walk-known c N sh) (λ w. walk_numbered (suc k) cs w.sheets Ns)
-
-passed : (w : Walk) (sh : Sheets) (x : Result Sheets) → results_of w sh ≡ x → Numbered x → pass (refused_by w) sh ≡ x
-unfolding results_of refused_by refused_in pass numbers walk_numbers values_of refusal with_chunk
-passed W.Accepted sh x e n = e
-passed (W.Refused k case.Passed) sh x e n = absurd (subst Numbered (sym e) n)
-passed (W.Refused k (case.Refused r)) sh x e n = e
+passed : (w : Outcome Unit Refused) (sh : Sheets) (x : Result Sheets) → results_of w sh ≡ x → pass (found w) sh ≡ x
+unfolding results_of found pass
+passed (Ok done) sh x e = e
+passed (Err r) sh x e = e
 
 -- sheets of zeros
 pub zeros_by : (t heights blinds : List ℕ) → heights ≡ replicate (length heights) 0 → blinds ≡ replicate (length blinds) 0 →
@@ -145,10 +122,7 @@ module _ (t : List ℕ) (h b : ℕ) (stands : StandsIn t) where
         }
 
     -- the walk's answer is the answer
-    pub tested_good : (w : Walk) (sh : Sheets) (r : Outcome Unit Refused) → found r ≡ refused_by w → results_of w sh ≡ walk_all 0 (table_chunks t) (zeros h b) →
-        pass (found r) sh ≡ check_module h b (module_of t)
+    pub tested_good : (w : Outcome Unit Refused) (sh : Sheets) → results_of w sh ≡ walk_all 0 (table_chunks t) (zeros h b) →
+        pass (found w) sh ≡ check_module h b (module_of t)
     unfolding N m
-    tested_good w sh r a c =
-        ap (λ (o : Option (List ℕ)). pass o sh) a
-        ∙ passed w sh (walk_all 0 (table_chunks t) (zeros h b)) c (walk_numbered 0 (table_chunks t) (zeros h b) (all_nested (table_chunks t) nested))
-        ∙ sym (whole ∙ run_good S (layout_test m) (table_chunks t) (zeros h b) none_found)
+    tested_good w sh c = passed w sh (walk_all 0 (table_chunks t) (zeros h b)) c ∙ sym (whole ∙ run_good S (layout_test m) (table_chunks t) (zeros h b) none_found)

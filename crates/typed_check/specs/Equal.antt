@@ -11,12 +11,8 @@ use Rattle.definition.specs.Demand.{Demand3}
 use Rattle.definition.specs.Format.{Bytes}
 use Rattle.answer.specs.declared.Accepted.{Accepted}
 use Rattle.answer.specs.declared.Refused.{Refused}
-use Rattle.answer.specs.Answer.{numbers, refused_numbers, answer_of}
+use Rattle.answer.specs.Answer.{refused_numbers, answer_of}
 use Rattle.listing.specs.Answer.{StandsIn}
-use Rattle.walk.specs.declared.Walk.{Walk}
-use Rattle.walk.specs.declared.Walk.TheVariants as W
-use Rattle.answer.specs.declared.Verdict.{Verdict}
-use Rattle.answer.specs.declared.Verdict.TheVariants as case
 
 -- an answer, and what both sheets hold
 abbrev pub checked_of : Outcome Accepted Refused → List ℕ → List ℕ → Checked
@@ -38,16 +34,6 @@ counted tables = record { chunks = count tables 7; instructions = count tables 9
 unfoldable pub CheckedIs : Bytes → ℕ → ℕ → Outcome Accepted Refused → List ℕ → List ℕ → List ℕ → Type 0
 CheckedIs listing h b (Ok a) tables heights blinds = (checked_of (Ok a) heights blinds ≡ check listing h b) × Tabled (Ok a) listing tables
 CheckedIs listing h b (Err r) tables heights blinds = check listing h b ≡ conclude h b (refused (refused_numbers r))
-
--- the numbers of a refusal in chunk k
-unfoldable pub refused_in : ℕ → Verdict → Option (List ℕ)
-refused_in k case.Passed = none
-refused_in k (case.Refused r) = some (numbers k r)
-
--- the numbers of a walk's refusal, with its chunk
-unfoldable pub refused_by : Walk → Option (List ℕ)
-refused_by W.Accepted = none
-refused_by (W.Refused k v) = refused_in k v
 
 -- the tests of a module in the tables, before it is walked
 unfoldable pub tests_of : ℕ → ℕ → List ℕ → Option (List ℕ)

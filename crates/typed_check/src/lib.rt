@@ -8,36 +8,9 @@ ghost use Rattle.bytecode.specs.Meaning.{module_of};
 ghost use Rattle.listing.specs.Answer.{StandsIn};
 ghost use Rattle.answer.specs.Answer.{found, answer_of};
 ghost use Rattle.stretch.specs.Stretch.{sheets_of};
-ghost use Rattle.typed_check.specs.Equal.{checked_of, counted, CheckedIs, Sound, Tabled, refused_in, refused_by, tests_of};
+ghost use Rattle.typed_check.specs.Equal.{checked_of, counted, CheckedIs, Sound, Tabled, tests_of};
 
-use answer::{Accepted, Refused, Verdict};
-use walk::Walk;
-
-// ---- the answers of the parts
-
-// With the number of its chunk, as the definition puts it in.
-#[tactic(auto, unfolding(answer::specs::Answer::found, crate::specs::Equal::refused_in))]
-fn of_chunk(k: usize, v: Verdict) -> Result<(), Refused>
-    ensures { found result ≡ refused_in k v }
-{
-    match v {
-        Verdict::Passed => Ok(()),
-        Verdict::Refused(refusal) => Err(Refused {
-            chunk: k as u64,
-            refusal,
-        }),
-    }
-}
-
-#[tactic(auto, unfolding(answer::specs::Answer::found, crate::specs::Equal::refused_by))]
-fn of_walk(w: Walk) -> Result<(), Refused>
-    ensures { found result ≡ refused_by w }
-{
-    match w {
-        Walk::Accepted => Ok(()),
-        Walk::Refused(k, v) => of_chunk(k, v),
-    }
-}
+use answer::{Accepted, Refused};
 
 // ---- the module in the tables
 
@@ -59,7 +32,7 @@ fn check_module(t: &[u64], heights: &mut [u8], blinds: &mut [u8]) -> Result<(), 
     ensures { pass (found result) (sheets_of heights.new blinds.new) ≡ check_module (length heights.old) (length blinds.old) (module_of t.now) }
 {
     test_module(t, heights.len(), blinds.len())?;
-    of_walk(walk::walk_chunks(t, heights, blinds))
+    walk::walk_chunks(t, heights, blinds)
 }
 
 // How many chunks and instructions the module in the tables has.

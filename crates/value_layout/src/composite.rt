@@ -1,4 +1,4 @@
-// The kinds of composites, by their tags.
+// The kinds of composites, by their tags: numbers, as those of scalars.
 pub const TUPLE: u8 = 0;
 
 pub const ARRAY: u8 = 1;

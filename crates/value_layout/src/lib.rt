@@ -16,27 +16,18 @@ pub struct Widths {
     pub address: u8,
 }
 
-// Eight bits hold every width, so that twice a word always fits the answer.
-fn wide(bytes: u8) -> u32
-    ensures { result ≡ bytes }
-{
-    bytes as u32
-}
-
 impl Widths {
     // Bytes of a scalar of a kind; a kind that is not known has none. Without floats theirs is not known either: who may meet it asks is_lacking first.
+    #[tactic(auto, unfolding(definition::specs::Shapes::scalar_widths))]
     pub fn size_in_bytes(self, kind: u8) -> u32
         ensures { result ≡ width_of self kind }
     {
         match kind {
-            scalar::UNIT => 0,
-            scalar::BOOL => 1,
-            scalar::BYTE => 1,
-            scalar::INT => wide(self.word),
-            scalar::FIXED => wide(self.word),
-            scalar::FLOAT => wide(self.float),
-            scalar::TEXT => 2 * wide(self.word),
-            scalar::OPAQUE => wide(self.address),
+            scalar::BOOL | scalar::BYTE => 1,
+            scalar::INT | scalar::FIXED => u32::from(self.word),
+            scalar::FLOAT => u32::from(self.float),
+            scalar::TEXT => 2 * u32::from(self.word),
+            scalar::OPAQUE => u32::from(self.address),
             _ => 0,
         }
     }
@@ -50,13 +41,11 @@ pub fn is_scalar_tag(tag: u8) -> bool
 }
 
 // Whether a module lacks a kind of scalar, from the bytes of its float: without floats their kind is a tag not known.
+#[tactic(auto, unfolding(definition::specs::Shapes::is_lacking))]
 pub fn is_lacking(float: u8, kind: u8) -> bool
     ensures { result ≡ is_lacking float kind }
 {
-    if float != 0 {
-        return false;
-    }
-    kind == scalar::FLOAT
+    float == 0 && kind == scalar::FLOAT
 }
 
 // Whether a tag is that of a composite kind.
@@ -71,11 +60,5 @@ pub fn address_bytes(log: u8) -> u8
     requires { log ≤ 6 }
     ensures { result ≡ 2 ^ log / 8 }
 {
-    match log {
-        3 => 1,
-        4 => 2,
-        5 => 4,
-        6 => 8,
-        _ => 0,
-    }
+    (1 << log) / 8
 }

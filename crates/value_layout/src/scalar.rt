@@ -1,4 +1,5 @@
-// The kinds of scalars, by their tags.
+// The kinds of scalars, by their tags. Numbers and not an enum: any byte may come as a tag, one that is not known too, and instructions and the words of a state hold kinds as
+// numbers, so each caller would only turn its number into the enum and back.
 pub const UNIT: u8 = 0;
 
 pub const BOOL: u8 = 1;

@@ -1,49 +1,71 @@
 -- What the walkers ask of their arguments, and what they walk.
-use Rattle.std.specs.Prelude.{List, ℕ, suc, ◌+◌, ◌-◌, ◌≤◌, ◌<◌, length}
+use Rattle.std.specs.Prelude.{◌≡◌, List, ℕ, suc, ◌+◌, ◌-◌, ◌≤◌, ◌<◌, length, Option as Maybe, Some, None, Result as Outcome, Ok, Err}
 use Rattle.definition.specs.Basics.{Result, ok, refused}
-use Rattle.definition.specs.Walk.{State as AnyState, Sheets, Walked, Left as AnyLeft, no_break, walk_arms, forget, with_locals}
+use Rattle.definition.specs.Instructions.{Control}
+use Rattle.definition.specs.Walk.{State as AnyState, Sheets, Walked, Left as AnyLeft, no_break, walk_arms, walk_chunk}
 use Rattle.definition.specs.Nesting.{else_at}
 use Rattle.theorems.specs.Fuel.{full}
 use Rattle.theorems.specs.Nested.{Arm, Nested}
-use Rattle.bytecode.specs.Meaning.{chunk_of, first_op, op_count}
+use Rattle.bytecode.specs.Meaning.{chunk_of, first_op, op_count, locals_at}
 use Rattle.frame.specs.declared.State.{State}
-use Rattle.frame.specs.Model.{state_of, locals_of}
-use Rattle.rules.specs.declared.Ctx.{Ctx}
-use Rattle.answer.specs.Answer.{with_chunk}
-use Rattle.blocks.specs.declared.Onward.{Onward}
-use Rattle.blocks.specs.Outcomes.{BreaksIn, numbers, breaks_of, Low, after_last}
-use Rattle.blocks.specs.Visits.{Placed, chunk_in}
-use Rattle.walk.specs.declared.Walk.{Walk}
-use Rattle.walk.specs.declared.Walk.TheVariants.{Accepted, Refused}
+use Rattle.rules.specs.declared.chunk.Context.{Context}
+use Rattle.rules.specs.Answers.{chunk_in}
+use Rattle.answer.specs.declared.Refusal.{Refusal}
+use Rattle.answer.specs.declared.Refused.{Refused}
+use Rattle.answer.specs.Answer.{refused_numbers}
+use Rattle.stretch.specs.Stretch.{sheets_of}
+use Rattle.blocks.specs.declared.Flow.{Flow}
+use Rattle.blocks.specs.declared.Breaks.{Breaks}
+use Rattle.blocks.specs.Outcomes.{Standing, standing, walked_of, rest_of, after_last, forgotten}
+use Rattle.blocks.specs.Visits.{Placed, visit_in}
 
 -- A stretch of a nested chunk: from ip on to the end of an arm, over a loop's floor.
-pub record Ready (t heights blinds : List ℕ) (x : Ctx) (ip end floor height breaks : ℕ) : Type 0 where
-  pub placed : Placed t heights blinds x
+pub record Ready (x : Context) (heights blinds : List ℕ) (ip end floor : ℕ) : Type 0 where
+  pub placed : Placed x heights blinds
   pub from : ℕ
-  pub arm : Arm (chunk_of t x.chunk) from end
+  pub arm : Arm (chunk_in x) from end
   pub after : from ≤ ip
   pub before : ip ≤ end
+  pub inside : end ≤ x.count
   pub floor_low : floor ≤ 64
-  pub height_low : height ≤ 64
-  pub breaks_low : breaks ≤ 64
 
--- an instruction with its blocks: the walk goes on after it, in the same stretch
-abbrev pub Goes : ℕ → ℕ → Onward → Type 0
-Goes ip end r = (ip < r.next) × (r.next ≤ end) × Low r.out
+-- the walk of a stretch
+abbrev pub Walks : Context → ℕ → ℕ → ℕ → Standing → Outcome Flow Refusal → Standing → Type 0
+Walks x start end floor p r q = walked_of r q ≡ full (chunk_in x) start end floor p.state p.breaks p.sheets
+
+-- The instruction at ip is one of an arm that ends at `end`.
+pub record In (x : Context) (ip end : ℕ) : Type 0 where
+  pub from : ℕ
+  pub arm : Arm (chunk_in x) from end
+  pub after : from ≤ ip
+  pub below : ip < end
+
+-- the walk goes on behind ip, in the same stretch, if it does
+abbrev pub Goes : ℕ → ℕ → Outcome (Maybe ℕ) Refusal → Type 0
+Goes ip end (Ok (Some next)) = (ip < next) × (next ≤ end)
+Goes ip end (Ok None) = Unit {0}
+Goes ip end (Err r) = Unit {0}
+
+-- What is left of a stretch after the instruction at ip and its blocks.
+pub record Rests (x : Context) (ip end floor : ℕ) (walk : Result Walked) (r : Outcome (Maybe ℕ) Refusal) (q : Standing) : Type 0 where
+  pub walked : rest_of (chunk_in x) end floor r q ≡ walk
+  pub goes : Goes ip end r
+
+-- the visit of the instruction at ip, in whatever stretch it is
+abbrev pub Visits : Context → ℕ → ℕ → Standing → Control → Outcome (Maybe ℕ) Refusal → Standing → Type 0
+Visits x ip floor p k r q = (end : ℕ) → In x ip end → Rests x ip end floor (visit_in x ip end floor p k) r q
 
 -- the arms of the If at ip
-abbrev pub arms_in : List ℕ → Ctx → ℕ → ℕ → ℕ → ℕ → State → BreaksIn → Sheets → Result Walked
-arms_in t x target ip end floor s b sh =
-    walk_arms (full (chunk_in t x)) ip target end floor (state_of x.locals s) (breaks_of x.locals b) sh (else_at (chunk_in t x) ip target)
+abbrev pub Arms : Context → ℕ → ℕ → ℕ → Standing → Outcome (Maybe ℕ) Refusal → Standing → Type 0
+Arms x target ip floor p r q =
+    (end : ℕ) → In x ip end → Rests x ip end floor (walk_arms (full (chunk_in x)) ip target end floor p.state p.breaks p.sheets (else_at (chunk_in x) ip target)) r q
 
 -- the last pass over the loop at ip, from a head
-abbrev pub forgotten : List ℕ → Ctx → ℕ → ℕ → State → AnyState
-forgotten t x ip exit head =
-    with_locals (state_of x.locals head) (forget (chunk_in t x) (suc ip) (exit - 1 - suc ip) (locals_of x.locals head))
+abbrev pub last_from : Context → ℕ → ℕ → ℕ → AnyState → Sheets → Result AnyLeft
+last_from x ip exit floor head sh = after_last ip head (full (chunk_in x) (suc ip) (exit - 1) floor head no_break sh)
 
-abbrev pub last_in : List ℕ → Ctx → ℕ → ℕ → ℕ → State → Sheets → Result AnyLeft
-last_in t x ip exit floor head sh =
-    after_last ip (forgotten t x ip exit head) (full (chunk_in t x) (suc ip) (exit - 1) floor (forgotten t x ip exit head) no_break sh)
+abbrev pub last_in : Context → ℕ → ℕ → ℕ → AnyState → Sheets → Result AnyLeft
+last_in x ip exit floor head sh = last_from x ip exit floor (forgotten (chunk_in x) (suc ip) (exit - 1) head) sh
 
 -- A nested chunk with room for its instructions in both sheets.
 pub record Roomy (t heights blinds : List ℕ) (k : ℕ) : Type 0 where
@@ -52,7 +74,13 @@ pub record Roomy (t heights blinds : List ℕ) (k : ℕ) : Type 0 where
   pub blinds_long : first_op t k + op_count t k ≤ length blinds
   pub nested : Nested (chunk_of t k)
 
+-- The walk of chunk k over these sheets is the definition's, with the state and breaks that it ends in.
+pub record WalkedChunk (t : List ℕ) (k : ℕ) (heights blinds : List ℕ) (r : Outcome Flow Refusal) (heights' blinds' : List ℕ) : Type 0 where
+  pub state : State
+  pub breaks : Breaks
+  pub walked : walked_of r (standing (locals_at t k) state breaks heights' blinds') ≡ walk_chunk (chunk_of t k) (sheets_of heights blinds)
+
 -- the walk of all chunks, with the sheets that it leaves
-unfoldable pub results_of : Walk → Sheets → Result Sheets
-results_of Accepted sh = ok sh
-results_of (Refused k r) sh = refused (with_chunk k (numbers r))
+unfoldable pub results_of : Outcome Unit Refused → Sheets → Result Sheets
+results_of (Ok _) sh = ok sh
+results_of (Err r) sh = refused (refused_numbers r)

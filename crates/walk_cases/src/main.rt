@@ -7,9 +7,11 @@ ghost use Rattle.definition.specs.Instructions.{control, loop_to};
 ghost use Rattle.blocks.specs.Visits.{Placed, instr_in};
 ghost use Rattle.walk.specs.Ready.{Roomy};
 
-use blocks::{Flow, Leaving};
+use answer::Refusal;
+use blocks::{Breaks, Flow};
 use bytecode::{Instr, SIZE, code};
-use rules::Ctx;
+use frame::Frame;
+use rules::Context;
 use std::io;
 
 const LISTING: &[u8] = b"\
@@ -48,10 +50,10 @@ fn print_sheets(rt: &impl Print, heights: &[u8], blinds: &[u8]) -> io::Result<()
 fn show_walk(rt: &impl Print, t: &[u64], heights: &mut [u8], blinds: &mut [u8]) -> io::Result<()>
     requires { Roomy t.now heights.old blinds.old 0 }
 {
-    let outcome = match walk::walk_chunk(t, heights, blinds, 0).flow {
-        Flow::Refused(_) => "refused",
-        Flow::Ended => "ended",
-        Flow::Falls => "fell through",
+    let outcome = match walk::walk_chunk(t, heights, blinds, 0) {
+        Ok(Flow::Ended) => "ended",
+        Ok(Flow::Falls) => "fell through",
+        Err(_) => "refused",
     };
     println!(rt; "walk {outcome}")?;
     print_sheets(rt, heights, blinds)
@@ -59,40 +61,20 @@ fn show_walk(rt: &impl Print, t: &[u64], heights: &mut [u8], blinds: &mut [u8]) 
 
 // The last pass over the loop at ip, from the state in which its chunk begins.
 fn last_pass(
-    t: &[u64],
+    x: &Context,
     heights: &mut [u8],
     blinds: &mut [u8],
-    x: Ctx,
     ip: usize,
     exit: usize,
-) -> Leaving
-    requires placed { Placed t.now heights.old blinds.old x }
-    requires inside { (ip + 1 < exit) × (exit ≤ x.count) × (control (instr_in t.now x ip) ≡ loop_to exit) }
+) -> Result<(), Refusal>
+    requires placed { Placed x.now heights.old blinds.old }
+    requires inside { (ip + 1 < exit) × (exit ≤ x.now.count) × (control (instr_in x.now ip) ≡ loop_to exit) }
 {
-    let mut slots = [0u64; 96];
-    let mut places = [0u32; 1536];
-    let mut head = [0u64; 96];
-    let mut texts = [0u32; 1536];
-    let mut broken = [0u64; 96];
-    let mut held = [0u32; 1536];
-    blocks::start_locals(t, &mut head, &mut texts, x);
-    walk::last_pass(
-        t,
-        heights,
-        blinds,
-        &mut slots,
-        &mut places,
-        &mut broken,
-        &mut held,
-        x,
-        &mut head,
-        &mut texts,
-        ip,
-        exit,
-        0,
-        0,
-    )
-    .leaving
+    let mut s = Frame::new();
+    let mut b = Breaks::new();
+    let mut head = Frame::new();
+    blocks::start_locals(x.tables, x.chunk, &mut head, x.locals);
+    walk::last_pass(x, heights, blinds, &mut s, &mut b, &mut head, ip, exit, 0)
 }
 
 // The last pass over the loop at ip of chunk 0.
@@ -105,18 +87,18 @@ fn show_last(
 ) -> io::Result<()>
     requires { Roomy t.now heights.old blinds.old 0 }
 {
-    let x = rules::context(t, 0);
+    let x = Context::new(t, 0);
     if x.count <= ip {
         return Ok(());
     }
-    let Instr { code, a, .. } = bytecode::instr_at(t, x.first + ip);
+    let Instr { code, a, .. } = bytecode::instr_at(x.tables, x.first + ip);
     let exit = a as usize;
     if code != code::LOOP || exit <= ip + 1 || x.count < exit {
         return Ok(());
     }
-    let outcome = match last_pass(t, heights, blinds, x, ip, exit) {
-        Leaving::Stopped(_) => "refused",
-        Leaving::After => "made",
+    let outcome = match last_pass(&x, heights, blinds, ip, exit) {
+        Ok(()) => "made",
+        Err(_) => "refused",
     };
     println!(rt; "last pass {outcome}")?;
     print_sheets(rt, heights, blinds)

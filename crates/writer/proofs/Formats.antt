@@ -1,105 +1,103 @@
--- What is left to say by the codes of a form, from a place of the formats on. Assumes nothing.
-use mathlib.Core.Path.{◌≡◌, sym, ap, ◌∙◌}
-use mathlib.Core.Logic.{◌≢◌, ⊎_elim}
-use mathlib.Core.Option.{Option, none, some}
-use mathlib.Core.List.{List, [], ◌∷◌}
-use Prim.Native.Nat.{ℕ, ◌+◌, ◌*◌, ◌≤◌, ◌<◌}
-use native.Mathlib.Omega.{arith}
-use native.Mathlib.Numerals.{add-one}
-use borrow.Author.Tests.{lt-ltb, le-ltb, eq-eqb, ne_eqb}
-use lib.ListN.{length, get_or, drop, drop_of_length-le}
-use lib.Seq.{drop-cons}
-use Rattle.definition.specs.Basics.{choose}
-use Rattle.definition.specs.Format.{Bytes}
+-- What is left to say by the codes of a form. Assumes nothing.
+use Rattle.std.proofs.Common.{◌≡◌, ◌≢◌, refl, sym, ap, ◌∙◌, T, List, [], ◌∷◌, ◌++◌, Some, None, ℕ, ◌+◌, ◌≤◌, ◌<◌, ltb, ◌&&◌, true, Bool, get_or, drop, length, arith, add-one, drop-cons}
+use Rattle.std.proofs.Math.ListN.{drop_of_length-le}
+use Rattle.std.specs.Float.Ieee.Fits.{and_l, and_r}
+use borrow.Author.Tests.{lt-ltb, le-ltb, ne_eqb}
+use Rattle.std.proofs.Math.Option.{Option, some}
+use Rattle.definition.specs.Format.{Bytes, form, bytes}
 use Rattle.definition.specs.Read.{line_forms}
-use Rattle.bytecode.specs.Tables.{eq_or}
-use Rattle.listing.specs.Scan.{formats, form_codes, up_to}
-use Rattle.listing.specs.Find.{form_coded}
-use Rattle.listing.specs.Rows.{formats_long, code_at, code_after}
-use Rattle.writer.specs.Put.{joined, joined_nothing, joined-joined}
-use Rattle.writer.specs.Say.{say, value_said, shape_said, first_said, shapes_said}
+use Rattle.theorems.specs.Keys.{keys, key}
+use Rattle.listing.specs.declared.form.Form.{Form}
+use Rattle.listing.specs.declared.form.Form.TheVariants as F
+use Rattle.listing.specs.Forms.{form_number}
+use Rattle.text_out.specs.declared.Text.{Text}
+use Rattle.text_out.specs.Text.{with_text}
+use Rattle.writer.specs.Put.{joined, joined_nothing, joined-joined, Puts}
+use Rattle.writer.specs.Say.{say, value_said, first_said, shapes_said}
+use Rattle.writer.specs.Lines.{true_of}
+use Rattle.writer.proofs.Putting.{Putting, puts_all, putting_start, putting_more, putting_lost, putting_done, putting_missing}
 
-unfoldable pub left : ℕ → List ℕ → Option Bytes
-left j ws = say (up_to (drop j formats)) ws
+-- ── The text that a line begins with ──────────────────────────────────────────────────────
 
-pub left-whole : (f : ℕ) (ws : List ℕ) → f < 11 → say (get_or (form_codes line_forms) f []) ws ≡ left (f * 16) ws
-unfolding left
-left-whole f ws h = ap (λ (cs : List ℕ). say cs ws) (sym (form_coded f h))
+-- no code of a value
+letters : Bytes → Bool
+letters [] = true
+letters (b ∷ bs) = ltb b 128 && letters bs
 
--- one code and those after it
-coded : (c : ℕ) (cs ws : List ℕ) → c < 128 → say (c ∷ cs) ws ≡ joined (some (c ∷ [])) (say cs ws)
-unfolding say
-coded c cs ws h = rw (say, lt-ltb c 128 h)
+letters_said : (x cs ws : List ℕ) → T (letters x) → say (x ++ cs) ws ≡ joined (some x) (say cs ws)
+unfolding letters say joined
+letters_said [] cs ws h = sym (joined_nothing (say cs ws))
+letters_said (b ∷ x) cs ws h =
+    rw (say, true_of (ltb b 128) (and_l (ltb b 128) (letters x) h))
+    (ap (joined (some (b ∷ []))) (letters_said x cs ws (and_r (ltb b 128) (letters x) h)) ∙ sym (joined-joined (some (b ∷ [])) (some x) (say cs ws)))
 
-valued : (c w : ℕ) (cs ws : List ℕ) → 128 ≤ c → c ≢ 141 → say (c ∷ cs) (w ∷ ws) ≡ joined (value_said c w) (say cs ws)
-unfolding say first_said
-valued c w cs ws h e = rw (say, le-ltb c 128 h, ne_eqb c 141 e)
+key_letters : (f : Form) → form_number f < 11 → T (letters (get_or (keys line_forms) (form_number f) []))
+unfolding letters keys key line_forms form bytes
+key_letters F.Module h = tt
+key_letters F.SharedSlot h = tt
+key_letters F.PrivateSlot h = tt
+key_letters F.Shared h = tt
+key_letters F.Private h = tt
+key_letters F.Enum h = tt
+key_letters F.Native h = tt
+key_letters F.Signature h = tt
+key_letters F.Chunk h = tt
+key_letters F.Constant h = tt
+key_letters F.Close h = tt
+key_letters (F.Op r) h = absurd (omega arith)
 
-unvalued : (c : ℕ) (cs : List ℕ) → 128 ≤ c → c ≢ 141 → say (c ∷ cs) [] ≡ none
-unfolding say first_said joined
-unvalued c cs h e = rw (say, le-ltb c 128 h, ne_eqb c 141 e)
+pub puts_text : (a b : Text) (f : Form) (x cs all ws : List ℕ) → form_number f < 11 → x ≡ get_or (keys line_forms) (form_number f) [] → get_or (keys line_forms) (form_number f) [] ++ cs ≡ all →
+    b ≡ with_text a x → Putting a b (say cs ws) (say all ws)
+puts_text a b f x cs all ws h e d w =
+    rw (← d, ← e) (putting_more (putting_start a (say (x ++ cs) ws)) (letters_said x cs ws (rw e (key_letters f h))) (puts_all a b x w))
 
-shaped : (cs : List ℕ) (w : ℕ) (ws : List ℕ) → say (141 ∷ cs) (w ∷ ws) ≡ joined (value_said 141 w) (say (141 ∷ cs) ws)
-unfolding say shapes_said value_said
-shaped cs w ws = joined-joined (shape_said w) (shapes_said ws) (say cs [])
+-- ── The codes after it ────────────────────────────────────────────────────────────────────
 
-unshaped : (cs : List ℕ) → say (141 ∷ cs) [] ≡ say cs []
-unfolding say shapes_said
-unshaped cs = joined_nothing (say cs [])
+module _ (a t : Text) (codes ws : List ℕ) (i : ℕ) (whole : Option Bytes) (p : Putting a t (say (drop i codes) ws) whole) where
+  pub puts_codes : length codes ≤ i → Puts a whole (Some tt) t
+  unfolding say
+  puts_codes h = putting_done p (rw (drop_of_length-le codes {i = i} h))
 
-up_on : (c : ℕ) (cs : List ℕ) → c ≢ 10 → up_to (c ∷ cs) ≡ c ∷ up_to cs
-unfolding up_to
-up_on c cs n = rw (up_to, ne_eqb c 10 n)
+  -- at a code
+  module _ (c : ℕ) (h : i < length codes) (e : c ≡ get_or codes i 0) where
+    on : drop i codes ≡ c ∷ drop (i + 1) codes
+    on = rw (drop-cons codes i 0 h, add-one i, e)
 
-pub left-past : (j : ℕ) (ws : List ℕ) → 176 ≤ j → left j ws ≡ some []
-unfolding left say up_to
-left-past j ws h = rw (drop_of_length-le formats {i = j} (omega (arith, formats_long)))
+    pub puts_letter : (b : Text) → c < 128 → b ≡ with_text t (c ∷ []) → Putting a b (say (drop (i + 1) codes) ws) whole
+    unfolding say
+    puts_letter b l w = putting_more p (rw (on, say, lt-ltb c 128 l)) (puts_all t b (c ∷ []) w)
 
-module _ (j c : ℕ) (h : j < 176) (e : c ≡ get_or formats j 0) where
-  pub left_end : (ws : List ℕ) → c ≡ 10 → left j ws ≡ some []
-  unfolding left say up_to
-  left_end ws d = rw (code_at j h, up_to, sym e, d)
+    shapes_left : c ≡ 141 → say (drop i codes) ws ≡ joined (shapes_said ws) (say (drop (i + 1) codes) [])
+    unfolding say
+    shapes_left d = rw (on, d)
 
-  module _ (n : c ≢ 10) where
-    codes_on : up_to (drop j formats) ≡ c ∷ up_to (drop (j + 1) formats)
-    codes_on = code_at j h ∙ ap (λ (x : ℕ). up_to (x ∷ drop (j + 1) formats)) (sym e) ∙ up_on c (drop (j + 1) formats) n
+    pub puts_left_shapes : (b : Text) → c ≡ 141 → Puts t (shapes_said ws) (Some tt) b → Putting a b (say (drop (i + 1) codes) []) whole
+    puts_left_shapes b d w = putting_more p (shapes_left d) w
 
-    left_on : (ws : List ℕ) → left j ws ≡ say (c ∷ up_to (drop (j + 1) formats)) ws
-    unfolding left
-    left_on ws = ap (λ (cs : List ℕ). say cs ws) codes_on
+    pub puts_lost_shapes : (b : Text) → c ≡ 141 → Puts t (shapes_said ws) None b → Puts a whole None b
+    puts_lost_shapes b d w = putting_lost p _ (shapes_left d) w
 
-    pub left_byte : (ws : List ℕ) → c < 128 → left j ws ≡ joined (some (c ∷ [])) (left (j + 1) ws)
-    unfolding left
-    left_byte ws l = left_on ws ∙ coded c (up_to (drop (j + 1) formats)) ws l
+    module _ (l : 128 ≤ c) (m : c ≢ 141) where
+      value_left : say (drop i codes) ws ≡ joined (first_said c ws) (say (drop (i + 1) codes) (drop 1 ws))
+      unfolding say
+      value_left = rw (on, say, le-ltb c 128 l, ne_eqb c 141 m)
 
-    module _ (l : 128 ≤ c) (words : List ℕ) (i : ℕ) where
-      pub left_value : i < length words → left j (drop i words) ≡ joined (value_said c (get_or words i 0)) (left (code_after j c) (drop (i + 1) words))
-      unfolding left code_after choose
-      left_value m =
-          let d : drop i words ≡ get_or words i 0 ∷ drop (i + 1) words = drop-cons words i 0 m ∙ ap (λ (k : ℕ). get_or words i 0 ∷ drop k words) (sym (add-one i)) in
-          left_on (drop i words) ∙ ap (say (c ∷ up_to (drop (j + 1) formats))) d
-          ∙ ⊎_elim
-          (λ (q : c ≡ 141).
-          ap (λ (x : ℕ). say (x ∷ up_to (drop (j + 1) formats)) (get_or words i 0 ∷ drop (i + 1) words)) q
-          ∙ shaped (up_to (drop (j + 1) formats)) (get_or words i 0) (drop (i + 1) words)
-          ∙ ap (λ (x : ℕ). joined (value_said x (get_or words i 0)) (say (x ∷ up_to (drop (j + 1) formats)) (drop (i + 1) words))) (sym q)
-          ∙ ap (joined (value_said c (get_or words i 0))) (sym (left_on (drop (i + 1) words)) ∙ (rw (eq-eqb c 141 q))))
-          (λ (q : c ≢ 141). valued c (get_or words i 0) (up_to (drop (j + 1) formats)) (drop (i + 1) words) l q ∙ (rw (ne_eqb c 141 q)))
-          (eq_or c 141)
+      pub puts_left_value : (b : Text) (w : ℕ) (rest : List ℕ) → ws ≡ w ∷ rest → Puts t (value_said c w) (Some tt) b → Putting a b (say (drop (i + 1) codes) rest) whole
+      unfolding first_said
+      puts_left_value b w rest d q = putting_more p (value_left ∙ (rw d)) q
 
-      pub left_none : length words ≤ i → c ≢ 141 → left j (drop i words) ≡ none
-      left_none m q =
-          left_on (drop i words) ∙ ap (say (c ∷ up_to (drop (j + 1) formats))) (drop_of_length-le words {i = i} m)
-          ∙ unvalued c (up_to (drop (j + 1) formats)) l q
+      pub puts_lost_value : (b : Text) (w : ℕ) (rest : List ℕ) → ws ≡ w ∷ rest → Puts t (value_said c w) None b → Puts a whole None b
+      unfolding first_said
+      puts_lost_value b w rest d q = putting_lost p (say (drop (i + 1) codes) rest) (value_left ∙ (rw d)) q
 
-      pub left_over : length words ≤ i → c ≡ 141 → left j (drop i words) ≡ left (j + 1) (drop i words)
-      unfolding left
-      left_over m q =
-          let d : drop i words ≡ [] = drop_of_length-le words {i = i} m in
-          left_on (drop i words) ∙ ap (say (c ∷ up_to (drop (j + 1) formats))) d
-          ∙ ap (λ (x : ℕ). say (x ∷ up_to (drop (j + 1) formats)) []) q ∙ unshaped (up_to (drop (j + 1) formats))
-          ∙ ap (say (up_to (drop (j + 1) formats))) (sym d)
+      pub puts_no_value : length ws ≡ 0 → Puts a whole None t
+      unfolding first_said joined
+      puts_no_value d = putting_missing p (value_left ∙ (rw (empty ws d)))
+        where
+          empty : (ws : List ℕ) → length ws ≡ 0 → ws ≡ []
+          empty [] e = refl
+          empty (w ∷ ws) e = absurd (omega arith)
 
-pub after_low : (j c : ℕ) → (j ≤ code_after j c) × (code_after j c ≤ j + 1)
-unfolding code_after choose
-after_low j c = ⊎_elim (λ (q : c ≡ 141). (rw (eq-eqb c 141 q) (omega arith, omega arith))) (λ (q : c ≢ 141). (rw (ne_eqb c 141 q) (omega arith, omega arith))) (eq_or c 141)
+-- ── For each function of the code ─────────────────────────────────────────────────────────
+
+pub ruleset forms = (puts_text, puts_codes, puts_letter, puts_left_shapes, puts_lost_shapes, puts_left_value, puts_lost_value, puts_no_value)

@@ -1,64 +1,34 @@
--- What each function of the writer puts, from what those put that it calls. Assumes nothing.
-use mathlib.Core.Path.{◌≡◌, refl, sym, ap, ◌∙◌}
+-- Which numbers and shapes are put, and which no listing says. Assumes nothing.
+use Rattle.std.proofs.Common.{◌⊎◌, inl, inr, ◌≡◌, refl, true, false, [], Some, None, ℕ, zero, suc, ◌+◌, ◌*◌, ◌/◌, ◌%◌, ◌≤◌, ◌<◌, List, length, get_or, drop, arith, add-one, drop-cons}
+use Rattle.std.proofs.Math.ListN.{drop_of_length-le}
+use borrow.Author.Tests.{eq-eqb, ne_eqb, leb-true, leb-false}
 use mathlib.Core.Logic.{◌≢◌}
-use mathlib.Core.Bool.{true, false}
-use mathlib.Core.Option.{none, some}
-use mathlib.Core.List.{List, [], ◌∷◌, ◌++◌, append_assoc}
-use Prim.Native.Nat.{ℕ, zero, suc, ◌+◌, ◌*◌, ◌/◌, ◌%◌, ◌≤◌, ◌<◌}
-use native.Mathlib.Omega.{arith}
-use borrow.Author.Tests.{le-leb, lt-leb, leb-true, leb-false, eq-eqb, ne_eqb}
+use Rattle.std.proofs.Math.Option.{Option, some}
 use Rattle.definition.specs.Basics.{choose}
 use Rattle.definition.specs.Shapes.{top, scalar_w, flat_w}
-use Rattle.definition.specs.Format.{Bytes, bytes, bits, decimal, provided}
+use Rattle.definition.specs.Format.{Bytes, bytes, bits, provided}
 use Rattle.definition.specs.Write.{spaced, render, at_shape, shape_text}
-use Rattle.theorems.specs.Decimal.{decimal-one, decimal-more}
-use Rattle.bytecode.specs.Lists.{limited, limited-same, limited-over}
 use Rattle.bytecode.specs.Held.{wire_word}
+use Rattle.bytecode.specs.Lists.{limited, limited-same, limited-over}
 use Rattle.bytecode.specs.Meaning.{wire_of, word_wire}
 use Rattle.listing.specs.Scan.{admitted}
-use Rattle.writer.specs.Put.{Put, joined, past, put_both, put_same, put_missing}
-use Rattle.writer.specs.Say.{number_said, shape_said, value_said, slot_form, sig_form}
+use Rattle.text_out.specs.declared.Text.{Text}
+use Rattle.text_out.specs.Text.{with_text}
+use Rattle.writer.specs.Put.{joined, Puts}
+use Rattle.writer.specs.Say.{number_said, shape_said, shapes_said, value_said}
+use Rattle.writer.proofs.Putting.{Putting, puts_all, puts_missing, putting_more, putting_lost, putting_done}
 
 -- ── Numbers ───────────────────────────────────────────────────────────────────────────────
 
-pub last_digit : {a b : List ℕ} {at p : ℕ} (n d : ℕ) → n < 10 → d ≡ 48 + n → Put a at (some (d ∷ [])) b p → Put a at (some (decimal n)) b p
-last_digit n d h e w = put_same (ap some (ap (λ (x : ℕ). x ∷ []) e ∙ sym (decimal-one n h))) w
-
-pub more_digits : {a b c : List ℕ} {at p q : ℕ} (n d : ℕ) → 10 ≤ n → d ≡ 48 + n % 10 → Put a at (some (decimal (n / 10))) b p → Put b p (some (d ∷ [])) c q →
-    Put a at (some (decimal n)) c q
-unfolding joined
-more_digits n d h e v w = put_same (ap some (ap (λ (x : ℕ). decimal (n / 10) ++ (x ∷ [])) e ∙ sym (decimal-more n h))) (put_both v w)
-
-pub number_in : {a b d : List ℕ} {at p q : ℕ} (c n : ℕ) → admitted c n ≡ true → Put a at (some (32 ∷ [])) b p → Put b p (some (decimal n)) d q →
-    Put a at (number_said c n) d q
-unfolding number_said spaced provided joined
-number_in c n e v w = put_same (let z : some (32 ∷ decimal n) ≡ number_said c n = (rw e) in z) (put_both v w)
-
-pub number_out : (a : List ℕ) (at c n : ℕ) → admitted c n ≡ false → Put a at (number_said c n) a past
+pub puts_number : (t s : Text) (c n : ℕ) → admitted c n ≡ true → s ≡ with_text t (spaced n) → Puts t (number_said c n) (Some tt) s
 unfolding number_said provided
-number_out a at c n e = put_same (let z : none ≡ number_said c n = (rw e) in z) (put_missing a a at)
+puts_number t s c n e f = rw e (puts_all t s _ f)
+
+pub puts_no_number : (t : Text) (c n : ℕ) → admitted c n ≡ false → Puts t (number_said c n) None t
+unfolding number_said provided
+puts_no_number t c n e = rw e (puts_missing t)
 
 -- ── Shapes ────────────────────────────────────────────────────────────────────────────────
-
-admits_8 : (k : ℕ) → k < 256 → number_said 128 k ≡ some (spaced k)
-unfolding number_said admitted provided choose
-admits_8 k h = rw (le-leb k 255 (omega arith))
-
-admits_32 : (n : ℕ) → n < 4294967296 → number_said 130 n ≡ some (spaced n)
-unfolding number_said admitted provided choose
-admits_32 n h = rw (le-leb n 4294967295 (omega arith))
-
-pub scalar_put : {a b c d : List ℕ} {at p q r : ℕ} (k : ℕ) → k < 256 → Put a at (some (bytes " (scalar")) b p → Put b p (number_said 128 k) c q →
-    Put c q (some (bytes ")")) d r → Put a at (some (shape_text (scalar_w k))) d r
-unfolding joined shape_text at_shape render bytes
-scalar_put k h u v w = put_both u (put_both (put_same (admits_8 k h) v) w)
-
-pub flat-put : {a b c d e : List ℕ} {at p q r s : ℕ} (k n : ℕ) → k < 256 → n < 4294967296 → Put a at (some (bytes " (flat")) b p → Put b p (number_said 128 k) c q →
-    Put c q (number_said 130 n) d r → Put d r (some (bytes ")")) e s → Put a at (some (shape_text (flat_w k n))) e s
-unfolding joined shape_text at_shape render bytes
-flat-put k n h l u v w x =
-    put_same (ap (λ (y : Bytes). some (bytes " (flat" ++ y)) (sym (append_assoc (spaced k) (spaced n) (bytes ")"))))
-    (put_both u (put_both (put_same (admits_8 k h) v) (put_both (put_same (admits_32 n l) w) x)))
 
 -- the shape that is not a scalar and not flat
 no_shape : (m k n : ℕ) → m ≢ 1 → m ≢ 2 → wire_of m k n ≡ top
@@ -68,68 +38,71 @@ no_shape (suc zero) k n e f = absurd (e refl)
 no_shape (suc (suc zero)) k n e f = absurd (f refl)
 no_shape (suc (suc (suc m))) k n e f = refl
 
-module _ (w : ℕ) where
-  pub top_said : w ≡ 0 → some (bytes " (top)") ≡ shape_said w
+module _ (w : ℕ) (t s : Text) where
+  pub puts_top : w ≡ 0 → s ≡ with_text t (bytes " (top)") → Puts t (shape_said w) (Some tt) s
   unfolding shape_said word_wire wire_of wire_word shape_text at_shape render provided bytes
-  top_said e = ap shape_said (sym e)
+  puts_top e f = rw e (puts_all t s _ f)
 
-  pub scalar_said : w % 4 ≡ 1 → w / 1024 ≡ 0 → some (shape_text (scalar_w (w / 4 % 256))) ≡ shape_said w
+  pub puts_scalar : w % 4 ≡ 1 → w / 1024 ≡ 0 → s ≡ with_text t (shape_text (scalar_w (w / 4 % 256))) → Puts t (shape_said w) (Some tt) s
   unfolding shape_said word_wire wire_of wire_word provided
-  scalar_said e f = rw (e, eq-eqb w (1 + 4 * (w / 4 % 256)) (omega arith))
+  puts_scalar e f g = rw (e, eq-eqb w (1 + 4 * (w / 4 % 256)) (omega arith)) (puts_all t s _ g)
 
-  pub wide_scalar : w % 4 ≡ 1 → w / 1024 ≢ 0 → none ≡ shape_said w
+  pub puts_flat : w % 4 ≡ 2 → admitted 130 (w / 1024) ≡ true → s ≡ with_text t (shape_text (flat_w (w / 4 % 256) (w / 1024))) → Puts t (shape_said w) (Some tt) s
+  unfolding shape_said word_wire wire_of wire_word provided admitted choose
+  puts_flat e f g =
+      let l = leb-true (w / 1024) 4294967295 f in
+      rw (e, limited-same 4294967295 (w / 1024) (omega arith), eq-eqb w (2 + 4 * (w / 4 % 256) + 1024 * (w / 1024)) (omega arith)) (puts_all t s _ g)
+
+module _ (w : ℕ) (t : Text) where
+  pub puts_wide_scalar : w % 4 ≡ 1 → w / 1024 ≢ 0 → Puts t (shape_said w) None t
   unfolding shape_said word_wire wire_of wire_word provided
-  wide_scalar e f = rw (e, ne_eqb w (1 + 4 * (w / 4 % 256)) (λ x. f (omega arith)))
+  puts_wide_scalar e f = rw (e, ne_eqb w (1 + 4 * (w / 4 % 256)) (λ x. f (omega arith))) (puts_missing t)
 
-  -- a size of 32 bits
-  pub size_in : admitted 130 (w / 1024) ≡ true → w / 1024 < 4294967296
-  unfolding admitted choose
-  size_in e = omega (arith, leb-true (w / 1024) 4294967295 e)
+  pub puts_wide_flat : w % 4 ≡ 2 → admitted 130 (w / 1024) ≡ false → Puts t (shape_said w) None t
+  unfolding shape_said word_wire wire_of wire_word provided admitted choose
+  puts_wide_flat e f =
+      let l = leb-false (w / 1024) 4294967295 f in
+      rw (e, limited-over 4294967295 (w / 1024) (omega arith), ne_eqb w (2 + 4 * (w / 4 % 256) + 1024 * 4294967295) (λ x. absurd (omega arith))) (puts_missing t)
 
-  pub size_over : admitted 130 (w / 1024) ≡ false → 4294967296 ≤ w / 1024
-  unfolding admitted choose
-  size_over e = omega (arith, leb-false (w / 1024) 4294967295 e)
-
-  pub flat_said : w % 4 ≡ 2 → w / 1024 < 4294967296 → some (shape_text (flat_w (w / 4 % 256) (w / 1024))) ≡ shape_said w
-  unfolding shape_said word_wire wire_of wire_word provided
-  flat_said e f = rw (e, limited-same 4294967295 (w / 1024) (omega arith), eq-eqb w (2 + 4 * (w / 4 % 256) + 1024 * (w / 1024)) (omega arith))
-
-  pub wide_flat : w % 4 ≡ 2 → 4294967296 ≤ w / 1024 → none ≡ shape_said w
-  unfolding shape_said word_wire wire_of wire_word provided
-  wide_flat e f = rw (e, limited-over 4294967295 (w / 1024) (omega arith), ne_eqb w (2 + 4 * (w / 4 % 256) + 1024 * 4294967295) (λ x. absurd (omega arith)))
-
-  pub other_said : w ≢ 0 → w % 4 ≢ 1 → w % 4 ≢ 2 → none ≡ shape_said w
+  pub puts_no_shape : w ≢ 0 → w % 4 ≢ 1 → w % 4 ≢ 2 → Puts t (shape_said w) None t
   unfolding shape_said word_wire provided wire_word
-  other_said e f g = rw (no_shape (w % 4) (w / 4 % 256) (limited (bits 32) (w / 1024)) f g, ne_eqb w 0 e)
+  puts_no_shape e f g = rw (no_shape (w % 4) (w / 4 % 256) (limited (bits 32) (w / 1024)) f g, ne_eqb w 0 e) (puts_missing t)
+
+shapes_more : (ws : List ℕ) (i : ℕ) → i < length ws → shapes_said (drop i ws) ≡ joined (shape_said (get_or ws i 0)) (shapes_said (drop (i + 1) ws))
+unfolding shapes_said
+shapes_more ws i h = rw (drop-cons ws i 0 h, add-one i)
+
+shapes_end : (ws : List ℕ) (i : ℕ) → length ws ≤ i → shapes_said (drop i ws) ≡ some []
+unfolding shapes_said
+shapes_end ws i h = rw (drop_of_length-le ws {i = i} h)
+
+module _ (a t : Text) (ws : List ℕ) (i : ℕ) (whole : Option Bytes) (p : Putting a t (shapes_said (drop i ws)) whole) where
+  pub puts_shape : (b : Text) → i < length ws → Puts t (shape_said (get_or ws i 0)) (Some tt) b → Putting a b (shapes_said (drop (i + 1) ws)) whole
+  puts_shape b h w = putting_more p (shapes_more ws i h) w
+
+  pub puts_no_shapes : (b : Text) → i < length ws → Puts t (shape_said (get_or ws i 0)) None b → Puts a whole None b
+  puts_no_shapes b h w = putting_lost p _ (shapes_more ws i h) w
+
+  pub puts_shapes : length ws ≤ i → Puts a whole (Some tt) t
+  puts_shapes h = putting_done p (shapes_end ws i h)
 
 -- ── Values by a code ──────────────────────────────────────────────────────────────────────
 
-pub value_shape : (c w : ℕ) → c ≡ 140 → shape_said w ≡ value_said c w
+pub value_shape : (c w : ℕ) → (c ≡ 140) ⊎ (c ≡ 141) → value_said c w ≡ shape_said w
 unfolding value_said
-value_shape c w e = rw e
+value_shape c w (inl e) = rw e
+value_shape c w (inr e) = rw e
 
-pub value_shapes : (c w : ℕ) → c ≡ 141 → shape_said w ≡ value_said c w
-unfolding value_said
-value_shapes c w e = rw e
-
-pub value_number : (c w : ℕ) → c ≢ 140 → c ≢ 141 → number_said c w ≡ value_said c w
+pub value_number : (c w : ℕ) → c ≢ 140 → c ≢ 141 → value_said c w ≡ number_said c w
 unfolding value_said
 value_number c w e f = rw (value_said, ne_eqb c 140 e, ne_eqb c 141 f)
 
--- ── Forms of rows ─────────────────────────────────────────────────────────────────────────
+-- ── For each function of the code ─────────────────────────────────────────────────────────
 
-pub few_shapes : (head : ℕ) → head < 2 → 86 ≡ sig_form head
-unfolding sig_form choose
-few_shapes head h = rw (lt-leb 2 head h)
+pub ruleset number = (puts_number, puts_no_number)
 
-pub many_shapes : (head : ℕ) → 2 ≤ head → 18 < head → 86 ≡ sig_form head
-unfolding sig_form choose
-many_shapes head h l = rw (le-leb 2 head h, lt-leb head 18 l)
+pub ruleset shape = (puts_top, puts_scalar, puts_flat, puts_wide_scalar, puts_wide_flat, puts_no_shape)
 
-pub some_shapes : (head : ℕ) → 2 ≤ head → head ≤ 18 → 7 ≡ sig_form head
-unfolding sig_form choose
-some_shapes head h l = rw (le-leb 2 head h, le-leb head 18 l)
+pub ruleset shapes = (puts_shape, puts_no_shapes, puts_shapes)
 
-pub other_slot : (head : ℕ) → head ≢ 0 → head ≢ 1 → 86 ≡ slot_form head
-unfolding slot_form choose
-other_slot head e f = rw (ne_eqb head 0 e, ne_eqb head 1 f)
+pub ruleset value = (value_shape, value_number)

@@ -1,5 +1,5 @@
-pub mod Laws
 pub mod Putting
+pub mod Laws
 pub mod Formats
 pub mod Steps
 pub mod Whole

@@ -1,46 +1,36 @@
 -- What each function puts of the tables, and what is left after each turn of its loop. Assumes nothing.
-use mathlib.Core.Path.{◌≡◌, refl, sym, ap, ◌∙◌}
-use mathlib.Core.Logic.{◌≢◌}
-use mathlib.Core.Bool.{Bool, true, false, not, ◌&&◌}
-use mathlib.Core.Option.{Option, none, some}
-use mathlib.Core.List.{List, [], ◌∷◌}
-use Prim.Native.Nat.{ℕ, zero, suc, ◌+◌, ◌-◌, ◌≤◌, ◌<◌}
-use native.Mathlib.Omega.{arith}
-use native.Mathlib.Numerals.{add-one}
-use native.Mathlib.Nat.{add-zero}
-use borrow.Author.Tests.{le-leb, lt-leb, lt-ltb, le-ltb, eq-eqb, ne_eqb, leb-true}
-use lib.Dec.{T, leb, eqb, leb→le}
-use lib.ListN.{length, get_or, take, drop, drop_of_length-le}
-use lib.Seq.{drop-cons}
-use Rattle.definition.specs.Basics.{choose}
+use Rattle.std.proofs.Common.{◌≡◌, ◌≢◌, refl, sym, ap, ◌∙◌, Bool, true, false, ◌&&◌, List, [], ◌∷◌, ◌++◌, Some, None, ℕ, zero, suc, ◌+◌, ◌-◌, ◌≤◌, ◌<◌, leb, eqb, get_or, length, take, drop, arith, add-one, add-zero, drop-cons}
+use Rattle.std.proofs.Math.Dec.{T, leb→le}
+use borrow.Author.Tests.{lt-ltb, le-ltb, ne_eqb}
+use Rattle.std.proofs.Math.ListN.{drop_of_length-le}
+use Rattle.std.proofs.Math.Seq.{take-length}
+use Rattle.std.specs.Prelude.{Option as CodeOption}
+use Rattle.std.specs.List.{list_all, range_with_len}
+use Rattle.std.proofs.Math.Option.{Option, none, some}
 use Rattle.definition.specs.Shapes.{is_lacking}
 use Rattle.definition.specs.Format.{Bytes, bytes}
 use Rattle.definition.specs.Read.{line_forms}
-use Rattle.bytecode.specs.Tables.{tables, cap, cells, row_at, stride, all_below, at_each, part-cells}
+use Rattle.bytecode.specs.Tables.{tables, cap, cells, row_at, all_below, at_each, part-cells}
 use Rattle.bytecode.specs.Meaning.{cell, count, table_header, maxima_of, const_count, op_count, first_const, first_op}
 use Rattle.bytecode.specs.Names.{name_at}
-use Rattle.listing.specs.Scan.{max_code, form_codes}
+use Rattle.listing.specs.declared.form.Form.{Form}
+use Rattle.listing.specs.Forms.{form_number}
+use Rattle.listing.specs.Scan.{form_codes, max_code}
 use Rattle.listing.specs.OpRead.{maxima_end, maxima_here, maxima_short}
-use Rattle.writer.specs.Put.{Put, joined, put_both, put_same}
-use Rattle.writer.specs.Say.{number_said, say, form_said, slot_form, sig_form, row_form, row_values, line_said, operand_said, operands_said, op_said}
-use Rattle.writer.specs.Say.{entry_said, rows_said, tables_said, close_said, chunk_said, chunk_follows, all_used, chunks_said, counts_fit, is_headed}
-use Rattle.writer.specs.Say.{module_said}
+use Rattle.text_out.specs.declared.Text.{Text}
+use Rattle.text_out.specs.Text.{with_text}
+use Rattle.text_out.proofs.Laws.{with_both}
+use Rattle.writer.specs.Put.{joined, Puts}
+use Rattle.writer.specs.Say.{say, form_said, Formed, line_said, close_said, number_said, operand_said, operands_said, op_said, entry_said, rows_said, tables_said}
+use Rattle.writer.specs.Say.{chunk_said, chunk_follows, all_used, chunks_said, counts_fit, is_headed, module_said}
+use Rattle.writer.proofs.Putting.{puts_all, puts_missing, puts_same, puts_both, puts_lost, Putting, putting_start, putting_more, putting_lost, putting_last, putting_done, putting_missing}
 
 -- ── Words of a row ────────────────────────────────────────────────────────────────────────
-
-cells-length : (t : List ℕ) (a n : ℕ) → length (cells t a n) ≡ n
-unfolding cells
-cells-length t a zero = refl
-cells-length t a (suc n) = ap suc (cells-length t (suc a) n)
 
 -- a part of the tables
 pub part_of : (t : List ℕ) (first end a n : ℕ) → first ≡ a → end ≡ a + n → a + n ≤ length t → take (end - first) (drop first t) ≡ cells t a n
 part_of t first end a n e f h =
     ap (λ (m : ℕ). take m (drop first t)) (let z : end - first ≡ n = omega arith in z) ∙ ap (λ (x : ℕ). take n (drop x t)) e ∙ part-cells t a n h
-
-pub part_length : (t : List ℕ) (first end n : ℕ) → end ≡ first + n → first + n ≤ length t → length (take (end - first) (drop first t)) ≡ n
-part_length t first end n e h =
-    ap length (part_of t first end first n refl e h) ∙ cells-length t first n
 
 low_cap : ℕ → Bool
 low_cap k = leb (cap k) 4096
@@ -53,87 +43,39 @@ pub cap_most : (k : ℕ) → k < tables → cap k ≤ 4096
 unfolding low_cap
 cap_most k h = leb→le (cap k) 4096 (at_each tables low_cap all_low k h)
 
-pub cap-header : cap 0 ≡ 1
-unfolding cap
-cap-header = refl
-
-pub cap_chunks : cap 7 ≡ 64
-unfolding cap
-cap_chunks = refl
-
-pub cap_constants : cap 8 ≡ 1024
-unfolding cap
-cap_constants = refl
-
-pub cap_instructions : cap 9 ≡ 4096
-unfolding cap
-cap_instructions = refl
-
-pub stride_instructions : stride 9 ≡ 4
-unfolding stride
-stride_instructions = refl
-
--- A row that a line says has a form, and no more values than words.
-pub record Formed (k head : ℕ) : Type 0 where
-  pub form : row_form k head < 11
-  pub values : row_values k head + 1 ≤ stride k
-
-formed : (k head : ℕ) → row_form k head < 11 → row_values k head + 1 ≤ stride k → Formed k head
-formed k head a b = record { form = a; values = b }
-
-slot_low : (a b : Bool) → choose a 1 (choose b 2 86) ≢ 86 → choose a 1 (choose b 2 86) < 11
-unfolding choose
-slot_low true b n = omega arith
-slot_low false true n = omega arith
-slot_low false false n = absurd (n refl)
-
-sig_low : (head : ℕ) (a b : Bool) → leb head 18 ≡ b → choose (a && b) 7 86 ≢ 86 → (choose (a && b) 7 86 < 11) × (head + 1 ≤ 19)
-unfolding choose
-sig_low head true true e n = (omega arith, omega (arith, leb-true head 18 e))
-sig_low head true false e n = absurd (n refl)
-sig_low head false b e n = absurd (n refl)
-
-pub row_formed : (k head : ℕ) → k < 9 → row_form k head ≢ 86 → Formed k head
-unfolding row_form row_values choose stride slot_form sig_form
-row_formed zero head h n = formed 0 head (omega arith) (omega arith)
-row_formed (suc zero) head h n = formed 1 head (slot_low (eqb head 0) (eqb head 1) n) (omega arith)
-row_formed (suc (suc zero)) head h n = formed 2 head (omega arith) (omega arith)
-row_formed (suc (suc (suc zero))) head h n = formed 3 head (omega arith) (omega arith)
-row_formed (suc (suc (suc (suc zero)))) head h n = formed 4 head (omega arith) (omega arith)
-row_formed (suc (suc (suc (suc (suc zero))))) head h n = formed 5 head (omega arith) (omega arith)
-row_formed (suc (suc (suc (suc (suc (suc zero)))))) head h n =
-    let p = sig_low head (leb 2 head) (leb head 18) refl n in formed 6 head p.0 p.1
-row_formed (suc (suc (suc (suc (suc (suc (suc zero))))))) head h n = formed 7 head (omega arith) (omega arith)
-row_formed (suc (suc (suc (suc (suc (suc (suc (suc zero)))))))) head h n = formed 8 head (omega arith) (omega arith)
-row_formed (suc (suc (suc (suc (suc (suc (suc (suc (suc k))))))))) head h n = absurd (omega arith)
-
 -- ── Lines ─────────────────────────────────────────────────────────────────────────────────
 
-formed_said : (f : ℕ) (ws : List ℕ) → f ≢ 86 → joined (say (get_or (form_codes line_forms) f []) ws) (some (10 ∷ [])) ≡ form_said f ws
-unfolding form_said
-formed_said f ws n = rw (form_said, ne_eqb f 86 n)
-
-module _ (t : List ℕ) (k i head f : ℕ) (e : head ≡ cell t k i 0) (g : f ≡ row_form k head) where
-  pub line_missing : f ≡ 86 → none ≡ line_said t k i
+module _ (t : List ℕ) (k i head : ℕ) (e : head ≡ cell t k i 0) where
+  pub puts_no_line : (a : Text) → Formed k head None → Puts a (line_said t k i) None a
   unfolding line_said form_said
-  line_missing h =
-      sym (ap (λ (x : ℕ). form_said x (cells t (row_at k i + 1) (row_values k (cell t k i 0)))) (ap (row_form k) (sym e) ∙ sym g ∙ h))
+  puts_no_line a g = rw (← e, g) (puts_missing a)
 
-  pub line_put : {a b c : List ℕ} {at p q : ℕ} (ws : List ℕ) → f ≢ 86 → ws ≡ cells t (row_at k i + 1) (row_values k head) →
-      Put a at (say (get_or (form_codes line_forms) f []) ws) b p → Put b p (some (10 ∷ [])) c q → Put a at (line_said t k i) c q
-  unfolding line_said
-  line_put ws n d v w =
-      put_same
-      (formed_said f ws n
-      ∙ ap (λ (x : ℕ). form_said x ws) (g ∙ ap (row_form k) e)
-      ∙ ap (form_said (row_form k (cell t k i 0))) (d ∙ ap (λ (h : ℕ). cells t (row_at k i + 1) (row_values k h)) e))
-      (put_both v w)
+  module _ (r : Form × ℕ) (f : Formed k head (Some r)) (first end : ℕ) (s : first ≡ row_at k i + 1) (z : end ≡ first + r.1) (l : end ≤ length t) (a b : Text) where
+    said : line_said t k i ≡ joined (say (get_or (form_codes line_forms) (form_number r.0) []) (take (end - first) (drop first t))) (some (10 ∷ []))
+    unfolding line_said form_said
+    said = rw (← e, f.0, f.1, ← (part_of t first end (row_at k i + 1) r.1 s (omega arith) (omega arith)))
 
-pub close_put : {a b c : List ℕ} {at p q : ℕ} → Put a at (say (get_or (form_codes line_forms) 10 []) []) b p → Put b p (some (10 ∷ [])) c q → Put a at close_said c q
-unfolding close_said
-close_put v w = put_same (formed_said 10 [] (λ e. absurd (omega arith))) (put_both v w)
+    pub puts_line : (c : Text) → Puts a (say (get_or (form_codes line_forms) (form_number r.0) []) (take (end - first) (drop first t))) (Some tt) b → c ≡ with_text b (10 ∷ []) →
+        Puts a (line_said t k i) (Some tt) c
+    puts_line c v w = puts_same a c (sym said) (puts_both v (puts_all b c (10 ∷ []) w))
+
+    pub puts_lost_line : Puts a (say (get_or (form_codes line_forms) (form_number r.0) []) (take (end - first) (drop first t))) None b → Puts a (line_said t k i) None b
+    puts_lost_line v = puts_same a b (sym said) (puts_lost (some (10 ∷ [])) v)
+
+module _ (a b : Text) where
+  pub puts_close : (c : Text) → Puts a (say (get_or (form_codes line_forms) 10 []) []) (Some tt) b → c ≡ with_text b (10 ∷ []) → Puts a close_said (Some tt) c
+  unfolding close_said form_said
+  puts_close c v w = puts_both v (puts_all b c (10 ∷ []) w)
+
+  pub puts_lost_close : Puts a (say (get_or (form_codes line_forms) 10 []) []) None b → Puts a close_said None b
+  unfolding close_said form_said
+  puts_lost_close v = puts_lost (some (10 ∷ [])) v
 
 -- ── Instructions ──────────────────────────────────────────────────────────────────────────
+
+-- all letters of a name
+pub with_name : (t : Text) (row n : ℕ) → n ≡ length (name_at row) → with_text t (take n (name_at row)) ≡ with_text t (name_at row)
+with_name t row n e = ap (with_text t) (rw e (take-length (name_at row)))
 
 first-left : (ws : List ℕ) (j : ℕ) → get_or (drop j ws) 0 0 ≡ get_or ws j 0
 first-left [] zero = refl
@@ -151,10 +93,6 @@ one_fewer (w ∷ ws) (suc j) = one_fewer ws j
 module _ (float row : ℕ) (ws : List ℕ) where
   unfoldable pub operands_left : ℕ → Option Bytes
   operands_left j = operands_said float (drop j (maxima_of row)) (drop j ws)
-
-  pub operands_whole : operands_left 0 ≡ operands_said float (maxima_of row) ws
-  unfolding operands_left
-  operands_whole = refl
 
   pub operands_more : (j m : ℕ) → m ≡ get_or (maxima_of row) j 0 → m ≢ 0 → operands_left j ≡ joined (operand_said float m (get_or ws j 0)) (operands_left (j + 1))
   unfolding operands_left operands_said
@@ -174,41 +112,60 @@ module _ (float row : ℕ) (ws : List ℕ) where
   operands_past j h l =
       ap (λ (ms : List ℕ). operands_said float ms (drop j ws)) (drop_of_length-le (maxima_of row) {i = j} (omega (arith, maxima_short row h)))
 
-pub operand_lacking : (float m w : ℕ) (b : Bool) → b ≡ (eqb m 7 && is_lacking float w) → b ≡ true → operand_said float m w ≡ none
-unfolding operand_said
-operand_lacking float m w b e f = rw (operand_said, sym e ∙ f)
+module _ (a t : Text) (float row : ℕ) (ws : List ℕ) (h : row < 75) (j m : ℕ) (e : m ≡ get_or (maxima_of row) j 0) (whole : Option Bytes) (p : Putting a t (operands_left float row ws j) whole) where
+  pub puts_last_operand : m ≡ 0 → Puts a whole (Some tt) t
+  puts_last_operand z = putting_done p (operands_end float row ws j m h e z)
 
-pub operand_known : (float m w c : ℕ) (b : Bool) → b ≡ (eqb m 7 && is_lacking float w) → b ≡ false → c ≡ max_code m → number_said c w ≡ operand_said float m w
-unfolding operand_said
-operand_known float m w c b e f g = ap (λ (x : ℕ). number_said x w) g ∙ (rw (operand_said, sym e ∙ f))
+  module _ (n : m ≢ 0) where
+    pub puts_lacking : true ≡ (eqb m 7 && is_lacking float (get_or ws j 0)) → Puts a whole None t
+    unfolding operand_said joined
+    puts_lacking l = putting_missing p (operands_more float row ws j m e n ∙ (rw (operand_said, sym l)))
 
-pub lost-first : (o p : Option Bytes) → o ≡ none → joined o p ≡ none
-unfolding joined
-lost-first o p e = ap (λ (x : Option Bytes). joined x p) e
+    module _ (c : ℕ) (l : false ≡ (eqb m 7 && is_lacking float (get_or ws j 0))) (d : c ≡ max_code m) (b : Text) where
+      known : operand_said float m (get_or ws j 0) ≡ number_said c (get_or ws j 0)
+      unfolding operand_said
+      known = rw (operand_said, ← l, d)
 
-module _ (t : List ℕ) (i float c : ℕ) (ws : List ℕ) (e : float ≡ (table_header t).float) (d : c ≡ cell t 9 i 0) (w : ws ≡ cells t (row_at 9 i + 1) 3) where
-  entry_op : op_said float c ws ≡ entry_said t 9 i
-  unfolding entry_said
-  entry_op = rw (e, d, w)
+      pub puts_operand : Puts t (number_said c (get_or ws j 0)) (Some tt) b → Putting a b (operands_left float row ws (j + 1)) whole
+      puts_operand w = putting_more p (operands_more float row ws j m e n) (puts_same t b (sym known) w)
 
-  pub op_put : {a₀ a₁ a₂ a₃ a₄ a₅ : List ℕ} {p₀ p₁ p₂ p₃ p₄ p₅ : ℕ} → c < 75 → Put a₀ p₀ (some (bytes "(op ")) a₁ p₁ → Put a₁ p₁ (some (name_at c)) a₂ p₂ →
-      Put a₂ p₂ (operands_said float (maxima_of c) ws) a₃ p₃ → Put a₃ p₃ (some (bytes ")")) a₄ p₄ → Put a₄ p₄ (some (10 ∷ [])) a₅ p₅ → Put a₀ p₀ (entry_said t 9 i) a₅ p₅
-  unfolding op_said joined
-  op_put h u v x y z = put_same ((rw (op_said, lt-ltb c 75 h)) ∙ entry_op) (put_both (put_both u v) (put_both x (put_both y z)))
+      pub puts_lost_operand : Puts t (number_said c (get_or ws j 0)) None b → Puts a whole None b
+      puts_lost_operand w = putting_lost p _ (operands_more float row ws j m e n) (puts_same t b (sym known) w)
 
-no_row : (float c : ℕ) (ws : List ℕ) → 75 ≤ c → none ≡ op_said float c ws
-unfolding op_said
-no_row float c ws h = rw (op_said, le-ltb c 75 h)
+pub puts_operands_start : (a : Text) (float row j : ℕ) (ws : List ℕ) → j ≡ 0 → Putting a a (operands_left float row ws j) (operands_said float (maxima_of row) ws)
+unfolding operands_left
+puts_operands_start a float row j ws e = rw e (putting_start a (operands_left float row ws 0))
 
-pub op_missing : (t : List ℕ) (i c : ℕ) → c ≡ cell t 9 i 0 → 75 ≤ c → none ≡ entry_said t 9 i
-unfolding entry_said
-op_missing t i c d h = no_row (table_header t).float (cell t 9 i 0) (cells t (row_at 9 i + 1) 3) (omega arith)
+pub puts_operands : (a t : Text) (float row : ℕ) (ws : List ℕ) (h : row < 75) (j : ℕ) (whole : Option Bytes) → Putting a t (operands_left float row ws j) whole → 3 ≤ j → Puts a whole (Some tt) t
+puts_operands a t float row ws h j whole p l = putting_done p (operands_past float row ws j h l)
+
+module _ (t : List ℕ) (i c : ℕ) (d : c ≡ cell t 9 i 0) (a : Text) where
+  pub puts_no_op : 75 ≤ c → Puts a (entry_said t 9 i) None a
+  unfolding entry_said op_said
+  puts_no_op h = rw (← d, op_said, le-ltb c 75 h) (puts_missing a)
+
+  module _ (h : c < 75) (float first end : ℕ) (f : float ≡ (table_header t).float) (s : first ≡ row_at 9 i + 1) (z : end ≡ first + 3) (l : end ≤ length t) (b₁ b₂ b₃ : Text)
+      (u : b₁ ≡ with_text a (bytes "(op ")) (v : b₂ ≡ with_text b₁ (name_at c)) where
+    entry_is : op_said float c (take (end - first) (drop first t)) ≡ entry_said t 9 i
+    unfolding entry_said
+    entry_is = rw (f, d, part_of t first end (row_at 9 i + 1) 3 s (omega arith) (omega arith))
+
+    op_is : joined (some (bytes "(op " ++ name_at c)) (joined (operands_said float (maxima_of c) (take (end - first) (drop first t))) (some (bytes ")" ++ (10 ∷ [])))) ≡ entry_said t 9 i
+    unfolding op_said
+    op_is = (rw (op_said, lt-ltb c 75 h)) ∙ entry_is
+
+    pub puts_op : (b₄ b₅ : Text) → Puts b₂ (operands_said float (maxima_of c) (take (end - first) (drop first t))) (Some tt) b₃ → b₄ ≡ with_text b₃ (bytes ")") → b₅ ≡ with_text b₄ (10 ∷ []) →
+        Puts a (entry_said t 9 i) (Some tt) b₅
+    puts_op b₄ b₅ w x y = puts_same a b₅ op_is (puts_both (puts_all a b₂ _ (with_both _ _ _ _ _ u v)) (puts_both w (puts_all b₃ b₅ _ (with_both _ _ _ _ _ x y))))
+
+    pub puts_lost_op : Puts b₂ (operands_said float (maxima_of c) (take (end - first) (drop first t))) None b₃ → Puts a (entry_said t 9 i) None b₃
+    puts_lost_op w = puts_same a b₃ op_is (puts_both (puts_all a b₂ _ (with_both _ _ _ _ _ u v)) (puts_lost _ w))
 
 -- ── Tables ────────────────────────────────────────────────────────────────────────────────
 
-pub entry_line : (t : List ℕ) (k i : ℕ) → k ≢ 9 → line_said t k i ≡ entry_said t k i
+pub puts_entry : (t : List ℕ) (k i : ℕ) (a b : Text) (r : CodeOption (Unit {0})) → k ≢ 9 → Puts a (line_said t k i) r b → Puts a (entry_said t k i) r b
 unfolding entry_said
-entry_line t k i n = rw (entry_said, ne_eqb k 9 n)
+puts_entry t k i a b r n w = rw (entry_said, ne_eqb k 9 n) w
 
 module _ (t : List ℕ) (k first n : ℕ) where
   unfoldable pub rows_left : ℕ → Option Bytes
@@ -247,12 +204,56 @@ module _ (t : List ℕ) where
   unfolding tables_left tables_said
   tables_end k h = ap (tables_said t k) (let z : 7 - k ≡ 0 = omega arith in z)
 
+module _ (a t : Text) (ts : List ℕ) (whole : Option Bytes) where
+  module _ (k first n i : ℕ) where
+    pub puts_rows_start : i ≡ 0 → Putting a a (rows_left ts k first n i) (rows_said ts k first n)
+    puts_rows_start e = rw (e, ← (rows_whole ts k first n)) (putting_start a (rows_said ts k first n))
+
+    module _ (p : Putting a t (rows_left ts k first n i) whole) where
+      pub puts_row : (b : Text) → i < n → Puts t (entry_said ts k (first + i)) (Some tt) b → Putting a b (rows_left ts k first n (i + 1)) whole
+      puts_row b h w = putting_more p (rows_more ts k first n i h) w
+
+      pub puts_lost_row : (b : Text) → i < n → Puts t (entry_said ts k (first + i)) None b → Puts a whole None b
+      puts_lost_row b h w = putting_lost p _ (rows_more ts k first n i h) w
+
+      pub puts_rows : n ≤ i → Puts a whole (Some tt) t
+      puts_rows h = putting_done p (rows_end ts k first n i h)
+
+  module _ (k : ℕ) where
+    pub puts_tables_start : k ≡ 1 → Putting a a (tables_left ts k) (tables_said ts 1 6)
+    puts_tables_start e = rw (e, ← (tables_whole ts)) (putting_start a (tables_said ts 1 6))
+
+    module _ (p : Putting a t (tables_left ts k) whole) where
+      pub puts_table : (n : ℕ) (b : Text) → k < 7 → n ≡ count ts k → Puts t (rows_said ts k 0 n) (Some tt) b → Putting a b (tables_left ts (k + 1)) whole
+      puts_table n b h e w = putting_more p (tables_more ts k n h e) w
+
+      pub puts_lost_table : (n : ℕ) (b : Text) → k < 7 → n ≡ count ts k → Puts t (rows_said ts k 0 n) None b → Puts a whole None b
+      puts_lost_table n b h e w = putting_lost p _ (tables_more ts k n h e) w
+
+      pub puts_tables : 7 ≤ k → Puts a whole (Some tt) t
+      puts_tables h = putting_done p (tables_end ts k h)
+
 -- ── Chunks ────────────────────────────────────────────────────────────────────────────────
 
-pub chunk_put : {a₀ a₁ a₂ a₃ a₄ : List ℕ} {p₀ p₁ p₂ p₃ p₄ : ℕ} (t : List ℕ) (k a m b n : ℕ) → a ≡ first_const t k → m ≡ const_count t k → b ≡ first_op t k → n ≡ op_count t k →
-    Put a₀ p₀ (line_said t 7 k) a₁ p₁ → Put a₁ p₁ (rows_said t 8 a m) a₂ p₂ → Put a₂ p₂ (rows_said t 9 b n) a₃ p₃ → Put a₃ p₃ close_said a₄ p₄ → Put a₀ p₀ (chunk_said t k) a₄ p₄
+module _ (ts : List ℕ) (k m n c o : ℕ) (e : m ≡ first_const ts k) (f : n ≡ const_count ts k) (g : c ≡ first_op ts k) (h : o ≡ op_count ts k) (a b : Text) where
+  chunk_is : joined (line_said ts 7 k) (joined (rows_said ts 8 m n) (joined (rows_said ts 9 c o) close_said)) ≡ chunk_said ts k
+  unfolding chunk_said
+  chunk_is = rw (e, f, g, h)
+
+  module _ (u : Puts a (line_said ts 7 k) (Some tt) b) (d : Text) where
+    pub puts_lost_constants : Puts b (rows_said ts 8 m n) None d → Puts a (chunk_said ts k) None d
+    puts_lost_constants v = puts_same a d chunk_is (puts_both u (puts_lost _ v))
+
+    module _ (v : Puts b (rows_said ts 8 m n) (Some tt) d) (x : Text) where
+      pub puts_lost_instructions : Puts d (rows_said ts 9 c o) None x → Puts a (chunk_said ts k) None x
+      puts_lost_instructions w = puts_same a x chunk_is (puts_both u (puts_both v (puts_lost _ w)))
+
+      pub puts_chunk : (y : Text) (r : CodeOption (Unit {0})) → Puts d (rows_said ts 9 c o) (Some tt) x → Puts x close_said r y → Puts a (chunk_said ts k) r y
+      puts_chunk y r w z = puts_same a y chunk_is (puts_both u (puts_both v (puts_both w z)))
+
+pub puts_lost_chunk_line : (ts : List ℕ) (k : ℕ) (a b : Text) → Puts a (line_said ts 7 k) None b → Puts a (chunk_said ts k) None b
 unfolding chunk_said
-chunk_put t k a m b n e f g h u v w x = put_same (rw (e, f, g, h)) (put_both u (put_both v (put_both w x)))
+puts_lost_chunk_line ts k a b u = puts_lost _ u
 
 module _ (t : List ℕ) (n : ℕ) where
   unfoldable pub chunks_left : ℕ → ℕ → ℕ → Option Bytes
@@ -299,73 +300,75 @@ module _ (t : List ℕ) (n : ℕ) where
   unfolding chunks_left
   chunks_whole m e = ap (chunks_said t 0 0 0) (let z : m ≡ n - 0 = omega arith in z)
 
-module _ (t : List ℕ) (k a b x y z : ℕ) (e : x ≡ cell t 7 k 1) (f : y ≡ cell t 7 k 2) (g : z ≡ cell t 7 k 3) where
-  pub many_locals : 32 < x → false ≡ chunk_follows t k a b
-  unfolding chunk_follows
-  many_locals h = rw (sym e, lt-leb x 32 h)
+pub puts_chunks_start : (a : Text) (ts : List ℕ) (n k : ℕ) → k ≡ 0 → Putting a a (chunks_left ts n k 0 0) (chunks_said ts 0 0 0 n)
+puts_chunks_start a ts n k e = rw (e, ← (chunks_whole ts n n refl)) (putting_start a (chunks_said ts 0 0 0 n))
 
-  pub other_constants : x ≤ 32 → y ≢ a → false ≡ chunk_follows t k a b
-  unfolding chunk_follows
-  other_constants h n = rw (sym e, le-leb x 32 h, sym f, ne_eqb y a n)
+module _ (a t : Text) (ts : List ℕ) (n k c o : ℕ) (whole : Option Bytes) (p : Putting a t (chunks_left ts n k c o) whole) where
+  module _ (h : k < n) where
+    pub puts_no_chunk : false ≡ chunk_follows ts k c o → Puts a whole None t
+    puts_no_chunk e = putting_missing p (chunks_lost ts n k c o h e)
 
-  pub same_constants : x ≤ 32 → y ≡ a → eqb z b ≡ chunk_follows t k a b
-  unfolding chunk_follows
-  same_constants h n = rw (sym e, le-leb x 32 h, sym f, eq-eqb y a n, sym g)
+    module _ (e : true ≡ chunk_follows ts k c o) (b : Text) where
+      pub puts_lost_chunk : Puts t (chunk_said ts k) None b → Puts a whole None b
+      puts_lost_chunk w = putting_lost p _ (chunks_more ts n k c o _ _ h e refl refl) w
 
-module _ (t : List ℕ) (a b x y : ℕ) (e : x ≡ get_or t 8 0) (f : y ≡ get_or t 9 0) where
-  pub unused_constants : x ≢ a → false ≡ all_used t a b
-  unfolding all_used
-  unused_constants n = rw (sym e, ne_eqb x a n)
+      pub puts_next_chunk : (x y : ℕ) → x ≡ const_count ts k → y ≡ op_count ts k → Puts t (chunk_said ts k) (Some tt) b → Putting a b (chunks_left ts n (k + 1) (c + x) (o + y)) whole
+      puts_next_chunk x y f g w = putting_more p (chunks_more ts n k c o _ _ h e (rw f) (rw g)) w
 
-  pub used_constants : x ≡ a → eqb y b ≡ all_used t a b
-  unfolding all_used
-  used_constants n = rw (sym e, eq-eqb x a n, sym f)
+  module _ (h : n ≤ k) where
+    pub puts_unused : false ≡ all_used ts c o → Puts a whole None t
+    puts_unused e = putting_missing p (chunks_over ts n k c o h e)
+
+    pub puts_chunks : true ≡ all_used ts c o → (b : Text) (r : CodeOption (Unit {0})) → Puts t close_said r b → Puts a whole r b
+    puts_chunks e b r w = putting_last p (puts_same t b (sym (chunks_end ts n k c o h e)) w)
 
 -- ── The module ────────────────────────────────────────────────────────────────────────────
 
-module _ (t : List ℕ) where
-  unfoldable pub counts_left : ℕ → Bool
-  counts_left k = counts_fit t k (10 - k)
+-- no more rows in a table than it holds
+abbrev pub fits_table : List ℕ → ℕ → Bool
+fits_table t k = leb (get_or t k 0) (cap k)
 
-  counts_one : (k : ℕ) → k < 10 → counts_left k ≡ counts_fit t k (suc (10 - (k + 1)))
-  unfolding counts_left
-  counts_one k h = ap (counts_fit t k) (let z : 10 - k ≡ suc (10 - (k + 1)) = omega arith in z)
+pub counts_all : (t : List ℕ) (k n : ℕ) → list_all (fits_table t) (range_with_len k n) ≡ counts_fit t k n
+unfolding counts_fit
+counts_all t k zero = refl
+counts_all t k (suc n) = ap (λ (b : Bool). fits_table t k && b) (rw (add-one k) (counts_all t (suc k) n))
 
-  pub counts_whole : counts_fit t 1 9 ≡ counts_left 1
-  unfolding counts_left
-  counts_whole = refl
-
-  pub counts_more : (k c x : ℕ) → k < 10 → c ≡ cap k → x ≡ get_or t k 0 → x ≤ c → counts_left k ≡ counts_left (k + 1)
-  unfolding counts_left counts_fit
-  counts_more k c x h e f l =
-      counts_one k h ∙ (rw (le-leb (get_or t k 0) (cap k) (omega arith))) ∙ ap (λ (i : ℕ). counts_fit t i (10 - (k + 1))) (sym (add-one k))
-
-  pub counts_over : (k c x : ℕ) → k < 10 → c ≡ cap k → x ≡ get_or t k 0 → c < x → counts_left k ≡ false
-  unfolding counts_fit
-  counts_over k c x h e f l = counts_one k h ∙ (rw (lt-leb (get_or t k 0) (cap k) (omega arith)))
-
-  pub counts_end : (k : ℕ) → 10 ≤ k → counts_left k ≡ true
-  unfolding counts_left counts_fit
-  counts_end k h = ap (counts_fit t k) (let z : 10 - k ≡ 0 = omega arith in z)
-
-  module _ (x y z : ℕ) (e : x ≡ get_or t 0 0) where
-    pub other_headers : x ≢ 1 → false ≡ is_headed t
-    unfolding is_headed
-    other_headers n = rw (sym e, ne_eqb x 1 n)
-
-    pub one_header : y ≡ cell t 0 0 6 → z ≡ cell t 0 0 7 → x ≡ 1 → not (eqb y z) ≡ is_headed t
-    unfolding is_headed
-    one_header f g n = rw (sym e, eq-eqb x 1 n, sym f, sym g)
-
-  pub module_put : {a b c d : List ℕ} {at p q r : ℕ} → is_headed t ≡ true → counts_fit t 1 9 ≡ true → Put a at (line_said t 0 0) b p → Put b p (tables_said t 1 6) c q →
-      Put c q (chunks_said t 0 0 0 (count t 7)) d r → Put a at (module_said t) d r
+module _ (ts : List ℕ) (a : Text) where
+  pub puts_no_module : is_headed ts && counts_fit ts 1 9 ≡ false → Puts a (module_said ts) None a
   unfolding module_said
-  module_put e f u v w = put_same (rw (module_said, e, f)) (put_both u (put_both v w))
+  puts_no_module e = rw (module_said, e) (puts_missing a)
 
-  pub no_header : is_headed t ≡ false → none ≡ module_said t
-  unfolding module_said
-  no_header e = rw (module_said, e)
+  module _ (e : is_headed ts && counts_fit ts 1 9 ≡ true) (b : Text) where
+    module_is : module_said ts ≡ joined (line_said ts 0 0) (joined (tables_said ts 1 6) (chunks_said ts 0 0 0 (count ts 7)))
+    unfolding module_said
+    module_is = rw (module_said, e)
 
-  pub no_counts : is_headed t ≡ true → counts_fit t 1 9 ≡ false → none ≡ module_said t
-  unfolding module_said
-  no_counts e f = rw (module_said, e, f)
+    pub puts_lost_header : Puts a (line_said ts 0 0) None b → Puts a (module_said ts) None b
+    puts_lost_header u = puts_same a b (sym module_is) (puts_lost _ u)
+
+    module _ (u : Puts a (line_said ts 0 0) (Some tt) b) (c : Text) where
+      pub puts_lost_tables : Puts b (tables_said ts 1 6) None c → Puts a (module_said ts) None c
+      puts_lost_tables v = puts_same a c (sym module_is) (puts_both u (puts_lost _ v))
+
+      pub puts_module : (d : Text) (r : CodeOption (Unit {0})) → Puts b (tables_said ts 1 6) (Some tt) c → Puts c (chunks_said ts 0 0 0 (count ts 7)) r d → Puts a (module_said ts) r d
+      puts_module d r v w = puts_same a d (sym module_is) (puts_both u (puts_both v w))
+
+-- ── For each function of the code ─────────────────────────────────────────────────────────
+
+pub ruleset line = (puts_no_line, puts_line, puts_lost_line)
+
+pub ruleset close = (puts_close, puts_lost_close)
+
+pub ruleset operands = (puts_operands_start, puts_operands, puts_operand, puts_lost_operand, puts_lacking, puts_last_operand)
+
+pub ruleset op = (puts_op, puts_lost_op, puts_no_op)
+
+pub ruleset rows = (puts_rows_start, puts_row, puts_lost_row, puts_rows, cap_most)
+
+pub ruleset all_tables = (puts_tables_start, puts_table, puts_lost_table, puts_tables)
+
+pub ruleset chunk = (puts_chunk, puts_lost_chunk_line, puts_lost_constants, puts_lost_instructions)
+
+pub ruleset chunks = (puts_chunks_start, puts_next_chunk, puts_lost_chunk, puts_no_chunk, puts_chunks, puts_unused)
+
+pub ruleset module_parts = (puts_no_module, puts_lost_header, puts_lost_tables, puts_module)

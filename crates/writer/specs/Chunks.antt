@@ -71,7 +71,7 @@ lines_both (x ∷ xs) ys =
 close_says : Says close_said (Unit {0}) (line_text close_line ++ (10 ∷ []))
 unfolding close_said form_codes line_forms form meant as_words line_text is_line at_line admits
 close_says =
-    says_as (form_says 10 close_items [] close_line refl refl line_fits.1.1.1.1.1.1.1.1.1.1.0.known tt refl refl) (λ h. (tt, refl)) (λ u. (refl, refl))
+    says_as (form_says 10 close_items [] close_line refl line_fits.1.1.1.1.1.1.1.1.1.1.0.known tt refl refl) (λ h. (tt, refl)) (λ u. (refl, refl))
 
 -- a chunk's lines
 chunk_text : Code → Bytes

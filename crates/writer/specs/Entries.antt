@@ -1,9 +1,9 @@
 -- The line of each table's entry: it is there exactly where the row says the entry that it means, and the entry passes.
-use Rattle.std.specs.Prelude.{◌≡◌, Bool, ◌&&◌, eqb, get_or}
+use Rattle.std.specs.Prelude.{◌≡◌, Bool, ◌&&◌, eqb, cond, get_or}
 use Rattle.std.proofs.Math.Path.{refl, sym, ap, subst}
 use Rattle.std.proofs.Common.{◌∙◌, add-suc}
 use Rattle.std.proofs.Math.Bool.{true, false}
-use Rattle.std.proofs.Math.Option.{Option}
+use Rattle.std.proofs.Math.Option.{Option, none, some}
 use mathlib.Core.List.{List, [], ◌∷◌, ◌++◌, map, append-nil}
 use Prim.Native.Nat.{ℕ, zero, suc, ◌+◌, ◌-◌, ◌≤◌}
 use native.Mathlib.Omega.{arith}
@@ -80,15 +80,15 @@ module _ (t : List ℕ) (k i : ℕ) where
       ap (λ (l : List ℕ). same_places l us) (cells_are (first_used k) (length us) ∙ e) ∙ same_self us
 
   -- the line of a row whose first word only counts its values
-  counted_line : (f n : ℕ) (is : List Item) (l : Line) (row : List ℕ) → first_used k ≡ 1 → line_said t k i ≡ form_said f (cells t (row_at k i + 1) n) → eqb f 86 ≡ false →
+  counted_line : (f n : ℕ) (is : List Item) (l : Line) (row : List ℕ) → first_used k ≡ 1 → line_said t k i ≡ form_said (some f) (cells t (row_at k i + 1) n) →
       get_or (form_codes line_forms) f [] ≡ codes is → Known is → Enough is (tabulate 1 n (cell t k i)) →
       at_values is (render shape_text [] is) (meant is (tabulate 1 n (cell t k i))) ≡ line_text l →
       at_values is (admits is_shape true is) (meant is (tabulate 1 n (cell t k i))) ≡ is_line l →
       drop 1 row ≡ as_words is (meant is (tabulate 1 n (cell t k i))) → length (drop 1 row) ≡ n →
       Says (line_said t k i) ((row_says t k i row ≡ true) × (is_line l ≡ true)) (line_text l ++ (10 ∷ []))
-  counted_line f n is l row u s d c kn e x y w m =
-      says_by (s ∙ ap (form_said f) (cells_are 1 n))
-      (says_as (form_says f is (tabulate 1 n (cell t k i)) l d c kn e x y)
+  counted_line f n is l row u s c kn e x y w m =
+      says_by (s ∙ ap (form_said (some f)) (cells_are 1 n))
+      (says_as (form_says f is (tabulate 1 n (cell t k i)) l c kn e x y)
       (λ h. ((row_tells row (rw (u, m) (h.0 ∙ sym w)), h.1), refl))
       (λ h. (sym (ap (λ (a : ℕ). tabulate 1 a (cell t k i)) m) ∙ (rw u at (row_told row h.0)) ∙ w, h.1)))
 
@@ -107,32 +107,32 @@ module _ (t : List ℕ) where
   pub header_says : Told (line_said t 0 0) t 0 0 header_words (λ x. is_line (first_line x)) first_line (table_header t)
   unfolding by_form table_header header_words
   header_says =
-      counted_line t 0 0 0 7 header_items (first_line (table_header t)) (header_words (table_header t)) refl refl refl refl line_fits.0.known tt refl refl refl refl
+      counted_line t 0 0 0 7 header_items (first_line (table_header t)) (header_words (table_header t)) refl refl refl line_fits.0.known tt refl refl refl refl
 
   pub shared_says : (i : ℕ) → Told (line_said t 2 i) t 2 i shared_words (λ x. is_line (shared_line x)) shared_line (shared_at t i)
   unfolding by_form shared_at shared_words
   shared_says i =
-      counted_line t 2 i 3 3 shared_items (shared_line (shared_at t i)) (shared_words (shared_at t i)) refl refl refl refl line_fits.1.1.1.0.known tt refl refl refl refl
+      counted_line t 2 i 3 3 shared_items (shared_line (shared_at t i)) (shared_words (shared_at t i)) refl refl refl line_fits.1.1.1.0.known tt refl refl refl refl
 
   pub private_says : (i : ℕ) → Told (line_said t 3 i) t 3 i private_words (λ x. is_line (private_line x)) private_line (private_at t i)
   unfolding by_form private_at private_words
   private_says i =
-      counted_line t 3 i 4 2 private_items (private_line (private_at t i)) (private_words (private_at t i)) refl refl refl refl line_fits.1.1.1.1.0.known tt refl refl refl refl
+      counted_line t 3 i 4 2 private_items (private_line (private_at t i)) (private_words (private_at t i)) refl refl refl line_fits.1.1.1.1.0.known tt refl refl refl refl
 
   pub enum_says : (i : ℕ) → Told (line_said t 4 i) t 4 i one_word (λ x. is_line (enum_line x)) enum_line (enum_at t i)
   unfolding by_form enum_at one_word
   enum_says i =
-      counted_line t 4 i 5 1 enum_items (enum_line (enum_at t i)) (one_word (enum_at t i)) refl refl refl refl line_fits.1.1.1.1.1.0.known tt refl refl refl refl
+      counted_line t 4 i 5 1 enum_items (enum_line (enum_at t i)) (one_word (enum_at t i)) refl refl refl line_fits.1.1.1.1.1.0.known tt refl refl refl refl
 
   pub native_says : (i : ℕ) → Told (line_said t 5 i) t 5 i native_words (λ x. is_line (native_line x)) native_line (native_at t i)
   unfolding by_form native_at native_words
   native_says i =
-      counted_line t 5 i 6 1 native_items (native_line (native_at t i)) (native_words (native_at t i)) refl refl refl refl line_fits.1.1.1.1.1.1.0.known tt refl refl refl refl
+      counted_line t 5 i 6 1 native_items (native_line (native_at t i)) (native_words (native_at t i)) refl refl refl line_fits.1.1.1.1.1.1.0.known tt refl refl refl refl
 
   pub const_says : (i : ℕ) → Told (line_said t 8 i) t 8 i one_word (λ x. is_line (const_line x)) const_line (const_at t i)
   unfolding by_form const_at one_word
   const_says i =
-      counted_line t 8 i 9 1 const_items (const_line (const_at t i)) (one_word (const_at t i)) refl refl refl refl line_fits.1.1.1.1.1.1.1.1.1.0.known tt refl refl refl refl
+      counted_line t 8 i 9 1 const_items (const_line (const_at t i)) (one_word (const_at t i)) refl refl refl line_fits.1.1.1.1.1.1.1.1.1.0.known tt refl refl refl refl
 
   -- a chunk's line, of at most 32 locals
   pub chunk_says : (k : ℕ) → leb (cell t 7 k 1) 32 ≡ true → Says (line_said t 7 k) (Unit {0}) (line_text (chunk_line (locals_at t k)) ++ (10 ∷ []))
@@ -141,9 +141,9 @@ module _ (t : List ℕ) where
       let n = cell t 7 k 1 in
       let low : n ≤ 32 = leb-true n 32 e in
       let same : limited 65535 n ≡ n = limited-same 65535 n (omega arith) in
-      says_by (ap (form_said 8) (cells_are t 7 k 1 1))
+      says_by (ap (form_said (some 8)) (cells_are t 7 k 1 1))
       (says_as
-      (form_says 8 chunk_items (n ∷ []) (chunk_line (limited 65535 n)) refl refl line_fits.1.1.1.1.1.1.1.1.0.known tt refl refl)
+      (form_says 8 chunk_items (n ∷ []) (chunk_line (limited 65535 n)) refl line_fits.1.1.1.1.1.1.1.1.0.known tt refl refl)
       (λ h. (tt, ap (λ (a : ℕ). line_text (chunk_line a) ++ (10 ∷ [])) (same ∙ sym (limited-same 32 n low))))
       (λ h. (ap (λ (a : ℕ). a ∷ []) (sym same), le-leb (limited 65535 n) 65535 (limited_le 65535 n))))
 
@@ -158,13 +158,13 @@ module _ (t : List ℕ) where
       and_end false = refl
 
   slot_by : (i : ℕ) (b c : Bool) → eqb (cell t 1 i 0) 0 ≡ b → eqb (cell t 1 i 0) 1 ≡ c →
-      Told (form_said (choose b 1 (choose c 2 86)) []) t 1 i slot_words (λ x. is_line (slot_line x)) slot_line (slot_of b)
+      Told (form_said (cond b (some 1) (cond c (some 2) none)) []) t 1 i slot_words (λ x. is_line (slot_line x)) slot_line (slot_of b)
   unfolding choose slot_of slot_words form_said form_codes line_forms form meant as_words line_text is_line at_line at_slot admits
   slot_by i true c d e =
-      says_as (form_says 1 (slot_items shared) [] (slot_line shared) refl refl line_fits.1.0.known tt refl refl)
+      says_as (form_says 1 (slot_items shared) [] (slot_line shared) refl line_fits.1.0.known tt refl refl)
       (λ h. ((slot_row i 0 ∙ d, refl), refl)) (λ h. (refl, refl))
   slot_by i false true d e =
-      says_as (form_says 2 (slot_items private) [] (slot_line private) refl refl line_fits.1.1.0.known tt refl refl)
+      says_as (form_says 2 (slot_items private) [] (slot_line private) refl line_fits.1.1.0.known tt refl refl)
       (λ h. ((slot_row i 1 ∙ e, refl), refl)) (λ h. (refl, refl))
   slot_by i false false d e = says_none _ (λ h. no_false (sym e ∙ sym (slot_row i 1) ∙ h.0))
 
@@ -220,7 +220,7 @@ module _ (t : List ℕ) where
       ∙ ap (λ (n : ℕ). tabulate 1 n (cell t 6 i)) (let z : cell t 6 i 0 ≡ suc (suc (params_at t i)) = omega arith in z)
 
   sig_by : (i : ℕ) (b : Bool) → leb 2 (cell t 6 i 0) && leb (cell t 6 i 0) 18 ≡ b →
-      Told (form_said (choose b 7 86) (cells t (row_at 6 i + 1) (cell t 6 i 0))) t 6 i sig_words sig_passes sig_line (sig_meant i)
+      Told (form_said (cond b (some 7) none) (cells t (row_at 6 i + 1) (cell t 6 i 0))) t 6 i sig_words sig_passes sig_line (sig_meant i)
   unfolding choose form_said form_codes line_forms form meant as_words line_text is_line at_line sig_meant sig_words sig_passes
   sig_by i true d =
       let p = and_true (leb 2 (cell t 6 i 0)) (leb (cell t 6 i 0) 18) d in
@@ -228,9 +228,9 @@ module _ (t : List ℕ) where
       let g : cell t 6 i 0 ≡ 2 + length (map word_wire (shape_words i)) = omega (arith, params_long i) in
       let few : leb (length (map word_wire (shape_words i))) 16 ≡ true = le-leb (length (map word_wire (shape_words i))) 16 (omega (arith, params_long i, few_params i)) in
       let z = ap (λ (l : List ℕ). wire_word (word_wire (cell t 6 i 1)) ∷ wire_word (word_wire (cell t 6 i 2)) ∷ l) (append-nil (map wire_word (map word_wire (shape_words i)))) in
-      says_by (ap (form_said 7) (sig_cells i h))
+      says_by (ap (form_said (some 7)) (sig_cells i h))
       (says_as
-      (form_says 7 sig_items (cell t 6 i 1 ∷ cell t 6 i 2 ∷ shape_words i) (sig_line (sig_meant i)) refl refl line_fits.1.1.1.1.1.1.1.0.known tt refl refl)
+      (form_says 7 sig_items (cell t 6 i 1 ∷ cell t 6 i 2 ∷ shape_words i) (sig_line (sig_meant i)) refl line_fits.1.1.1.1.1.1.1.0.known tt refl refl)
       (λ q. ((sig_tells i (both_same g (q.0 ∙ z)), and_of q.1 few), refl))
       (λ q. (rest-same (sig_row i q.0) ∙ sym z, (and_true _ _ q.1).0)))
   sig_by i false d = says_none _ (λ q. no_false (sym d ∙ in_range q.0))

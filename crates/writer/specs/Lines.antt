@@ -51,7 +51,7 @@ Enough (shapes ∷ is) ws = Enough is []
 
 -- ── Tests ─────────────────────────────────────────────────────────────────────────────────
 
-true_of : (b : Bool) → T b → b ≡ true
+pub true_of : (b : Bool) → T b → b ≡ true
 true_of true t = refl
 true_of false t = absurd t
 
@@ -222,12 +222,12 @@ items_say (shapes ∷ is) ws k e =
     ((h.0 ∙ ap (λ (l : List ℕ). map wire_word (map word_wire ws) ++ l) z ∙ append-nil _, q.0), (sym z, q.1)))
 
 -- A line by its form's number, its items and what they say at these words.
-pub form_says : (f : ℕ) (is : List Item) (ws : List ℕ) (l : Line) → eqb f 86 ≡ false → get_or (form_codes line_forms) f [] ≡ codes is → Known is → Enough is ws →
+pub form_says : (f : ℕ) (is : List Item) (ws : List ℕ) (l : Line) → get_or (form_codes line_forms) f [] ≡ codes is → Known is → Enough is ws →
     at_values is (render shape_text [] is) (meant is ws) ≡ line_text l → at_values is (admits is_shape true is) (meant is ws) ≡ is_line l →
-    Says (form_said f ws) ((ws ≡ as_words is (meant is ws)) × (is_line l ≡ true)) (line_text l ++ (10 ∷ []))
+    Says (form_said (some f) ws) ((ws ≡ as_words is (meant is ws)) × (is_line l ≡ true)) (line_text l ++ (10 ∷ []))
 unfolding form_said
-form_says f is ws l n c k e x y =
-    says_by (rw (form_said, n, c))
+form_says f is ws l c k e x y =
+    says_by (rw (form_said, c))
     (says_as (says_both (items_say is ws k e) (says_some (10 ∷ [])))
     (λ h. (
       (h.0.0, sym y ∙ admits_is is_shape true is (meant is ws) ∙ h.0.1),

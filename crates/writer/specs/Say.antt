@@ -1,27 +1,26 @@
 -- The bytes that the words of tables are written as, by the reader's own codes of each line's form; none where a word says what no listing says there.
-use Rattle.std.specs.Prelude.{Bool, true, false, not, ◌&&◌, List, [], ◌∷◌, ◌++◌, ℕ, zero, suc, ◌+◌, leb, ltb, eqb, get_or, drop}
+use Rattle.std.specs.Prelude.{◌≡◌, ◌<◌, ◌≤◌, Bool, true, false, not, ◌&&◌, List, [], ◌∷◌, ◌++◌, ℕ, zero, suc, ◌+◌, leb, ltb, eqb, cond, get_or, drop, Option as CodeOption, Some, None}
 use Rattle.std.proofs.Math.Option.{Option, none, some}
 use Rattle.definition.specs.Basics.{choose}
 use Rattle.definition.specs.Shapes.{is_lacking}
 use Rattle.definition.specs.Format.{Bytes, bytes, provided}
 use Rattle.definition.specs.Read.{line_forms}
 use Rattle.definition.specs.Write.{spaced, shape_text}
-use Rattle.bytecode.specs.Tables.{cap, cells, row_at}
+use Rattle.bytecode.specs.Tables.{cap, cells, row_at, stride}
 use Rattle.bytecode.specs.Held.{wire_word}
 use Rattle.bytecode.specs.Meaning.{cell, count, table_header, word_wire, maxima_of, first_const, const_count, first_op, op_count}
 use Rattle.bytecode.specs.Names.{name_at}
+use Rattle.listing.specs.declared.form.Form.{Form}
+use Rattle.listing.specs.Forms.{form_number}
 use Rattle.listing.specs.Scan.{max_code, admitted, form_codes}
 use Rattle.writer.specs.Put.{joined}
 
--- codes of the formats that are no number: a shape, and any number of shapes; the form that no line has
+-- codes of the formats that are no number: a shape, and any number of shapes
 abbrev pub shape_code : ℕ
 shape_code = 140
 
 abbrev pub shapes_code : ℕ
 shapes_code = 141
-
-abbrev pub no_form : ℕ
-no_form = 86
 
 -- ── Values ────────────────────────────────────────────────────────────────────────────────
 
@@ -56,22 +55,29 @@ say (c ∷ cs) ws =
     ]
 
 -- a line by its form, and its LF
-unfoldable pub form_said : ℕ → List ℕ → Option Bytes
-form_said f ws = elim (eqb f no_form) [ true ↦ none | false ↦ joined (say (get_or (form_codes line_forms) f []) ws) (some (10 ∷ [])) ]
+unfoldable pub form_said : Option ℕ → List ℕ → Option Bytes
+form_said none ws = none
+form_said (some f) ws = joined (say (get_or (form_codes line_forms) f []) ws) (some (10 ∷ []))
 
 -- a slot's form, by its word; that of a signature, by the number of its shapes
-unfoldable pub slot_form : ℕ → ℕ
-slot_form head = choose (eqb head 0) 1 (choose (eqb head 1) 2 no_form)
+unfoldable pub slot_form : ℕ → Option ℕ
+slot_form head = cond (eqb head 0) (some 1) (cond (eqb head 1) (some 2) none)
 
-unfoldable pub sig_form : ℕ → ℕ
-sig_form head = choose (leb 2 head && leb head 18) 7 no_form
+unfoldable pub sig_form : ℕ → Option ℕ
+sig_form head = cond (leb 2 head && leb head 18) (some 7) none
 
 -- the form of the line that a row of table k says, and how many values it has, by the row's first word
-unfoldable pub row_form : ℕ → ℕ → ℕ
-row_form k head = choose (eqb k 1) (slot_form head) (choose (eqb k 6) (sig_form head) (get_or (0 ∷ no_form ∷ 3 ∷ 4 ∷ 5 ∷ 6 ∷ no_form ∷ 8 ∷ 9 ∷ []) k no_form))
+unfoldable pub row_form : ℕ → ℕ → Option ℕ
+row_form k head =
+    cond (eqb k 1) (slot_form head) (cond (eqb k 6) (sig_form head) (get_or (some 0 ∷ none ∷ some 3 ∷ some 4 ∷ some 5 ∷ some 6 ∷ none ∷ some 8 ∷ some 9 ∷ []) k none))
 
 unfoldable pub row_values : ℕ → ℕ → ℕ
 row_values k head = choose (eqb k 6) head (get_or (7 ∷ 0 ∷ 3 ∷ 2 ∷ 1 ∷ 1 ∷ 0 ∷ 1 ∷ 1 ∷ []) k 0)
+
+-- A form and a number of values are those of the row's line, or it has none. A form's number is below 11, and the row has a word for each value.
+abbrev pub Formed : ℕ → ℕ → CodeOption (Form × ℕ) → Type 0
+Formed k head None = row_form k head ≡ none
+Formed k head (Some r) = (row_form k head ≡ some (form_number r.0)) × (row_values k head ≡ r.1) × (form_number r.0 < 11) × (r.1 + 1 ≤ stride k)
 
 unfoldable pub line_said : List ℕ → ℕ → ℕ → Option Bytes
 line_said t k i = let head = cell t k i 0 in form_said (row_form k head) (cells t (row_at k i + 1) (row_values k head))
@@ -111,7 +117,7 @@ tables_said t k (suc n) = joined (rows_said t k 0 (count t k)) (tables_said t (s
 
 -- the closing line
 unfoldable pub close_said : Option Bytes
-close_said = form_said 10 []
+close_said = form_said (some 10) []
 
 unfoldable pub chunk_said : List ℕ → ℕ → Option Bytes
 chunk_said t k =

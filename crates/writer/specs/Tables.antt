@@ -1,5 +1,5 @@
 -- The writing call on tables: they mean a module, and where they say it exactly it is written.
-use Rattle.std.specs.Prelude.{◌≡◌, Bool, true, false, List, [], ◌∷◌, ◌++◌, ℕ, ◌≤◌, length, take, drop}
+use Rattle.std.specs.Prelude.{◌≡◌, Bool, true, false, List, [], ◌∷◌, ◌++◌, ℕ, ◌≤◌, length, take, drop, Result as Outcome}
 use Rattle.definition.specs.Basics.{Result, ok, refused}
 use Rattle.definition.specs.Format.{Bytes}
 use Rattle.definition.specs.Module.{Module}
@@ -8,7 +8,6 @@ use Rattle.definition.specs.Write.{Written, write, put_result}
 use Rattle.bytecode.specs.Meaning.{module_of}
 use Rattle.bytecode.specs.Exact.{is_exact}
 use Rattle.answer.specs.Answer.{written_of}
-use Rattle.std.specs.Prelude.{Result as Outcome}
 use Rattle.answer.specs.declared.Refusal.{Refusal}
 
 -- "A module that no listing gives is 1, line 0": tables that say no module exactly say one that no listing gives.

@@ -2,7 +2,7 @@
 
 // A row for each name, seven words: the name packed into three words, the first byte lowest; how many bytes it has; the largest number that
 // each of its operands may be, 0 where there is none. After the rows stands, for each of 256 places, the row whose name has it.
-pub const NAMES: [u64; 781] = [
+pub static NAMES: [u64; 781] = [
     500152823619,
     0,
     0,
@@ -787,13 +787,13 @@ pub const NAMES: [u64; 781] = [
 ];
 
 // Need and net of a plain name; 0 for a name whose need or net hangs on more than its name.
-pub const NEED: [u8; 75] = [
+pub static NEED: [u8; 75] = [
     0, 0, 0, 0, 0, 0, 1, 0, 0, 0, 0, 0, 0, 2, 2, 2, 2, 2, 2, 2, 2, 2, 2, 2, 2, 2, 2, 2, 1, 1, 1, 1,
     1, 1, 1, 1, 0, 0, 0, 0, 0, 0, 0, 0, 0, 1, 0, 0, 0, 0, 0, 0, 0, 0, 2, 2, 2, 2, 2, 2, 2, 2, 1, 0,
     0, 0, 0, 0, 0, 0, 0, 0, 0, 0, 0,
 ];
 
-pub const NET: [i8; 75] = [
+pub static NET: [i8; 75] = [
     0, 0, 1, 1, 0, 0, -1, 0, 0, 0, 0, 0, 0, -1, -1, -1, -1, -1, -1, -1, -1, -1, -1, -1, -1, -1, -1,
     -1, 0, 0, 0, 0, 0, 0, 0, 0, 0, 0, 0, 0, 0, 0, 0, 0, 0, 0, 0, 0, 0, 0, 0, 0, 0, 0, 1, 1, 1, 1,
     1, 1, 1, 1, 2, 0, 0, 0, 0, 0, 0, 0, 0, 0, 0, 0, 0,

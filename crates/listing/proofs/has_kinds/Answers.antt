@@ -1,30 +1,25 @@
-use mathlib.Core.Path.{◌∙◌, sym, refl}
+use Rattle.std.specs.Prelude.{not}
+use Rattle.std.proofs.Common.{◌≡◌, ◌+◌, get_or, eqb, ◌&&◌, rules, arith, refl, ◌∙◌, ne_eqb}
+use borrow.Author.Tests.{tests}
+use Rattle.std.proofs.lemmas.Iterator.{YieldsList-from_range}
+use Rattle.std.proofs.lemmas.Iterator.Search.{all_from_yields_List}
+use Rattle.definition.specs.Shapes.{is_lacking}
 use Rattle.bytecode.specs.Meaning.{maxima_of}
 use Rattle.listing.specs.OpRead.{maxima_short}
-use Rattle.listing.specs.Kinds.{named_is, named_all, named_next, named_not, named_none}
-use native.Mathlib.Omega.{arith}
+use Rattle.listing.specs.Kinds.{is_fine, fine_is, kinds_all, named_all}
 use Rattle.listing.proofs.has_kinds.Goals as goal
 
 pub returns-then-float-ne0 : goal.returns-then-float-ne0
-returns-then-float-ne0 c = λ vs st. named_all _ _ vs c.if-float-ne0.true
+returns-then-float-ne0 c = λ vs st. rw (ne_eqb c.args.float 0 c.if-float-ne0.true) (named_all _ _ vs c.if-float-ne0.true)
 
-pub loop-j-init : goal.loop-j-init
-loop-j-init c = (omega arith, λ n vs st. refl)
-
-pub returns-then-names_lacking : goal.returns-then-names_lacking
-returns-then-names_lacking c = λ vs st. named_not c.args.float (maxima_of c.args.row) vs c.loop-j.j
-    (sym (named_is c.args.float (maxima_of c.args.row) vs c.loop-j.j c.maximum-most.result _ c.maximum-most.ensures (st.here c.loop-j.j (omega arith))) ∙ sym c.names_lacking.ensures ∙ c.if-names_lacking.true)
-    ∙ sym (c.loop-j.invariant.1 _ vs st)
-
-pub loop-j-preserved : goal.loop-j-preserved
-loop-j-preserved c = (
-  omega arith,
-  λ n vs st. c.loop-j.invariant.1 n vs st
-      ∙ named_next c.args.float (maxima_of c.args.row) vs c.loop-j.j
-      (sym (named_is c.args.float (maxima_of c.args.row) vs c.loop-j.j c.maximum-most.result _ c.maximum-most.ensures (st.here c.loop-j.j (omega arith))) ∙ sym c.names_lacking.ensures ∙ c.if-names_lacking.false),
-)
-
-pub returns : goal.returns
-returns c = λ vs st. named_none c.args.float (maxima_of c.args.row) vs c.loop-j.j
-    (omega (arith, maxima_short c.args.row c.requires.0, c.loop-j-test.false))
-    ∙ sym (c.loop-j.invariant.1 _ vs st)
+pub returns-else-float-ne0 : goal.returns-else-float-ne0
+returns-else-float-ne0 c = λ vs st.
+    let float = c.args.float in
+    let ms = maxima_of c.args.row in
+    let words = c.args.values.now.words in
+    let short = maxima_short c.args.row c.requires in
+    all_from_yields_List (is_fine float ms vs) _ _ c.all.result c.all.ensures.ran (YieldsList-from_range 0 3 3 refl (omega arith))
+    (λ x b q k.
+    let e : b ≡ not (eqb (get_or ms x 0) 7 && is_lacking float (get_or words (x + 1) 0)) = search (rules, tests, k.met.0) in
+    (search (rules, k.met.1), e ∙ fine_is float ms vs words x short st.here))
+    ∙ kinds_all float ms vs short

@@ -1,10 +1,10 @@
-use Prim.Native.Nat.{◌-◌}
-use lib.ListN.{length}
+use Rattle.std.proofs.Common.{length}
+use Rattle.listing.specs.Forms.{place_number}
 use Rattle.listing.specs.Reads.{Going}
 use Rattle.listing.proofs.read_lines.Given as goal
 
-abbrev pub invariant-loop-at : goal.invariant-loop-at
-invariant-loop-at l = Going l.s l.t l.place l.lines l.at
+abbrev pub invariant-loop-bytes : goal.invariant-loop-bytes
+invariant-loop-bytes l = Going l.fn.bytes l.t (place_number l.place) l.lines l.bytes
 
-abbrev pub decreases-loop-at : goal.decreases-loop-at
-decreases-loop-at l = length l.s - l.at
+abbrev pub decreases-loop-bytes : goal.decreases-loop-bytes
+decreases-loop-bytes l = length l.bytes

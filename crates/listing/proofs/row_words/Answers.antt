@@ -1,15 +1,8 @@
-use mathlib.Core.Path.{◌∙◌, ap}
-use Prim.Native.Nat.{ℕ}
-use lib.ListN.{get_or, set}
-use Rattle.listing.specs.Step.{words_plain, words_chunk}
+use Rattle.listing.specs.Step.{row_plain, row_chunk}
 use Rattle.listing.proofs.row_words.Goals as goal
 
-pub returns-then-form-eq-CHUNK : goal.returns-then-form-eq-CHUNK
-returns-then-form-eq-CHUNK c = λ m vs l st fit own p q j h.
-    ap (λ (x : ℕ). get_or (set (set (set c.args.e.vals 0 x) 2 c.args.constants) 3 c.args.instructions) j 0) c.head_word.ensures
-    ∙ words_chunk c.args.e vs st l fit own c.if-form-eq-CHUNK.true m c.args.constants c.args.instructions p q j h
+pub returns-in-Chunk : goal.returns-in-Chunk
+returns-in-Chunk c = λ m vs l st fit own p q. row_chunk m _ _ vs l st fit own _ c.head_word.ensures c.in-Chunk.is _ _ p q
 
-pub returns : goal.returns
-returns c = λ m vs l st fit own p q j h.
-    ap (λ (x : ℕ). get_or (set c.args.e.vals 0 x) j 0) c.head_word.ensures
-    ∙ words_plain c.args.e vs st l fit own c.if-form-eq-CHUNK.false m j h
+pub returns-in_default : goal.returns-in_default
+returns-in_default c = λ m vs l st fit own p q. row_plain m _ _ vs l st fit own _ c.head_word.ensures c.in_default.not-Chunk

@@ -1,10 +1,10 @@
-use Prim.Native.Nat.{◌+◌, ◌*◌, ◌-◌}
-use lib.ListN.{length}
+use Rattle.std.proofs.Common.{length, ◌+◌}
+use Rattle.listing.specs.Scan.{scan}
 use Rattle.listing.specs.Rows.{Sofar}
 use Rattle.listing.proofs.scan.Given as goal
 
-abbrev pub invariant-loop-j : goal.invariant-loop-j
-invariant-loop-j l = Sofar l.s (l.f * 16) l.i l.j l.vals l.n
+abbrev pub invariant-loop-codes : goal.invariant-loop-codes
+invariant-loop-codes l = Sofar (scan l.fn.codes l.fn.line) l.codes l.line l.fn.values l.values
 
-abbrev pub decreases-loop-j : goal.decreases-loop-j
-decreases-loop-j l = (176 - l.j) * 65537 + (length l.s - l.i)
+abbrev pub decreases-loop-codes : goal.decreases-loop-codes
+decreases-loop-codes l = length l.codes + length l.line

@@ -4,11 +4,8 @@ use Rattle.std.proofs.Common.{rules, arith}
 use Rattle.std.proofs.lemmas.Result.{err_from_is_err_and}
 use Rattle.bytecode.specs.Tables.{cap}
 use Rattle.bytecode.specs.Meaning.{count_low}
-use Rattle.nesting.proofs.All.{start, is_broken, goes_on, ends_well}
+use Rattle.nesting.proofs.All.{is_broken, goes_on, ends_well}
 use Rattle.nesting.proofs.check_nesting.Goals as goal
-
-pub loop-k-init : goal.loop-k-init
-loop-k-init c = start c.args.t.now
 
 pub check_chunk-requires : goal.check_chunk-requires
 unfolding cap

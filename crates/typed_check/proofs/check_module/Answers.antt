@@ -12,5 +12,5 @@ pub walk_chunks-requires : goal.walk_chunks-requires
 walk_chunks-requires c = roomy c.args.t.now _ _ c.requires.stands_in c.test_module.result c.in_ok-test_module.was c.test_module.ensures c.args.heights.now c.args.blinds.now refl refl
 
 pub returns : goal.returns
-returns c = tested_good c.args.t.now _ _ c.requires.stands_in c.test_module.result c.in_ok-test_module.was c.test_module.ensures c.walk_chunks.result _ c.of_walk.result c.of_walk.ensures
+returns c = tested_good c.args.t.now _ _ c.requires.stands_in c.test_module.result c.in_ok-test_module.was c.test_module.ensures c.walk_chunks.result _
     (c.walk_chunks.ensures ∙ zeros_by c.args.t.now _ _ c.requires.cleared.0 c.requires.cleared.1)

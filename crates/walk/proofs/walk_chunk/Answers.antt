@@ -1,18 +1,26 @@
-use mathlib.Core.Path.{refl}
-use Rattle.frame.specs.Model.{at}
-use Rattle.blocks.specs.Outcomes.{outcome_in}
-use Rattle.walk.proofs.Start.{locals_few, chunk_ready, chunk_walked}
-use borrow.Author.Rules.{rules}
+use Rattle.std.proofs.Common.{ap, ◌∙◌}
+use Rattle.theorems.specs.Fuel.{full}
+use Rattle.rules.specs.Answers.{chunk_in}
+use Rattle.blocks.specs.declared.Pending.{Pending}
+use Rattle.blocks.specs.Outcomes.{pending_of}
+use Rattle.frame.specs.Model.{state_of}
+use Rattle.stretch.specs.Stretch.{sheets_of}
+use Rattle.walk.proofs.Start.{chunk_walked, locals_are}
 use Rattle.walk.proofs.walk_chunk.Goals as goal
 
-pub context-x-requires : goal.context-x-requires
-context-x-requires c = c.requires.low
-
-pub start_locals-requires : goal.start_locals-requires
-start_locals-requires c = (search rules, search rules, locals_few c.args.t.now c.args.heights.now c.args.blinds.now c.args.k c.requires c.context-x.result c.context-x.ensures)
-
-pub interp_region-requires : goal.interp_region-requires
-interp_region-requires c = record { ready = chunk_ready c.args.t.now c.args.heights.now c.args.blinds.now c.args.k c.requires c.context-x.result c.context-x.ensures; long = (c.start_locals.ensures.0, search rules) }
-
 pub returns : goal.returns
-returns c = (_, _, _, _, chunk_walked c.args.t.now c.args.heights.now c.args.blinds.now c.args.k c.requires c.context-x.result c.context-x.ensures (at 0 c.start_locals.new.slots c.start_locals.new.places) _ (outcome_in c.interp_region.result c.interp_region.new.slots c.interp_region.new.places c.interp_region.new.broken c.interp_region.new.held) _ c.start_locals.ensures.1 refl c.interp_region.ensures.2)
+returns c =
+    let a = c.args in
+    let x = c.new-x in
+    let w = c.interp_region in
+    let b = c.new-b.result in
+    let same = locals_are a.t.now a.heights.now a.blinds.now a.k c.requires x.result x.ensures.tables x.ensures.chunk in
+    record {
+      state = w.new.s.state;
+      breaks = w.new.b;
+      walked =
+          chunk_walked a.t.now a.heights.now a.blinds.now a.k c.requires x.result x.ensures.tables x.ensures.chunk _ _ c.start_locals.ensures
+          (rw (← same)
+          (w.ensures
+          ∙ ap (λ (p : Pending). full (chunk_in x.result) 0 x.result.count 0 (state_of x.result.locals c.start_locals.new.s.state) (pending_of (state_of x.result.locals b.frame.state) p) (sheets_of a.heights.now a.blinds.now)) c.new-b.ensures));
+    }

@@ -1,20 +1,12 @@
--- The tables from k on decide. Assumes nothing.
-use mathlib.Core.Path.{sym, ◌∙◌}
-use Rattle.writer.proofs.Steps.{counts_whole, counts_more, counts_over, counts_end}
-use native.Mathlib.Omega.{arith}
+-- The chain tests each table. Assumes nothing.
+use Rattle.std.proofs.Common.{rules, refl, ◌∙◌}
+use borrow.Author.Tests.{tests}
+use Rattle.std.proofs.lemmas.Iterator.{YieldsList-from_range}
+use Rattle.std.proofs.lemmas.Iterator.Search.{all_from_yields_List}
+use Rattle.writer.proofs.Steps.{fits_table, counts_all}
 use Rattle.writer.proofs.counts_fit.Goals as goal
 
-pub loop-k-init : goal.loop-k-init
-loop-k-init c = (omega arith, counts_whole c.args.t.now)
-
-pub cap_of-requires : goal.cap_of-requires
-cap_of-requires c = omega arith
-
-pub returns-then-cap_of-word : goal.returns-then-cap_of-word
-returns-then-cap_of-word c = sym (c.loop-k.invariant.1 ∙ counts_over c.args.t.now c.loop-k.k c.cap_of.result c.word.result c.loop-k-test.true c.cap_of.ensures c.word.ensures c.if-cap_of-word.true)
-
-pub loop-k-preserved : goal.loop-k-preserved
-loop-k-preserved c = (omega arith, c.loop-k.invariant.1 ∙ counts_more c.args.t.now c.loop-k.k c.cap_of.result c.word.result c.loop-k-test.true c.cap_of.ensures c.word.ensures c.if-cap_of-word.false)
-
 pub returns : goal.returns
-returns c = sym (c.loop-k.invariant.1 ∙ counts_end c.args.t.now c.loop-k.k c.loop-k-test.false)
+returns c =
+    all_from_yields_List (fits_table c.args.t.now) _ _ c.all.result c.all.ensures.ran (YieldsList-from_range 1 10 9 refl refl) (λ x b q k. search (rules, tests))
+    ∙ counts_all c.args.t.now 1 9

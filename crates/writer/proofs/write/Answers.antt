@@ -1,20 +1,13 @@
--- Assumes nothing.
-use Rattle.writer.specs.Said.{module_says}
-use Rattle.writer.proofs.Whole.{none_written, short_written, room_written, back, again}
-use borrow.Author.Rules.{rules}
+-- The answer is the definition's, and so it holds both ways. Assumes nothing.
+use Rattle.std.proofs.Common.{rules}
+use Rattle.writer.proofs.Whole.{none_written, short_written, room_written, both_ways}
 use Rattle.writer.proofs.write.Goals as goal
 
-pub put_module-n-requires : goal.put_module-n-requires
-put_module-n-requires c = (c.line_formats-forms.ensures, c.names-names.ensures, search rules)
+pub returns-in_default-clause-written_back : goal.returns-in_default-clause-written_back
+returns-in_default-clause-written_back c = both_ways c.args.t.now c.args.out.now _ _ (none_written c.args.t.now _ _ _ c.put_listing.ensures c.args.out.now (search rules))
 
-pub returns-then-n-ge-PAST : goal.returns-then-n-ge-PAST
-returns-then-n-ge-PAST c = let e = (none_written c.args.t.now (module_says c.args.t.now) c.put_module-n.result c.put_module-n.ensures.place c.args.out.now c.if-n-ge-PAST.true) in record { equal = e; written_back = (back c.args.t.now c.args.out.now _ _ e, again c.args.t.now c.args.out.now _ _ e) }
+pub returns-then-out-length-clause-written_back : goal.returns-then-out-length-clause-written_back
+returns-then-out-length-clause-written_back c = both_ways c.args.t.now c.args.out.now _ _ (short_written c.args.t.now _ _ _ c.put_listing.ensures _ c.in-Some.is c.args.out.now c.if-out-length.true)
 
-pub returns-then-room-n : goal.returns-then-room-n
-returns-then-room-n c = let e = (short_written c.args.t.now (module_says c.args.t.now) c.put_module-n.result c.put_module-n.ensures.place c.if-n-ge-PAST.false c.args.out.now c.wide.result c.wide.ensures c.if-room-n.true) in record { equal = e; written_back = (back c.args.t.now c.args.out.now _ _ e, again c.args.t.now c.args.out.now _ _ e) }
-
-pub put_module-end-requires : goal.put_module-end-requires
-put_module-end-requires c = (c.line_formats-forms.ensures, c.names-names.ensures, search rules)
-
-pub returns : goal.returns
-returns c = let e = (room_written c.args.t.now (module_says c.args.t.now) c.put_module-n.result c.put_module-n.ensures.place c.if-n-ge-PAST.false c.args.out.now _ c.put_module-end.result c.wide-2.result c.wide-2.ensures c.if-room-n.false c.put_module-end.ensures) in record { equal = e; written_back = (back c.args.t.now c.args.out.now _ _ e, again c.args.t.now c.args.out.now _ _ e) }
+pub returns-clause-written_back : goal.returns-clause-written_back
+returns-clause-written_back c = both_ways c.args.t.now c.args.out.now _ _ (room_written c.args.t.now _ _ _ c.put_listing.ensures _ c.in-Some.is c.args.out.now _ _ c.if-out-length.false c.put_listing-2.ensures)

@@ -1,5 +1,5 @@
 -- `nesting::code::Code::of_chunk` meets its contract. Assumes nothing.
-use Rattle.std.proofs.Common.{refl, arith}
+use Rattle.std.proofs.Common.{arith}
 use Rattle.bytecode.specs.Tables.{cap}
 use Rattle.nesting.proofs.code.Code.of_chunk.Goals as goal
 

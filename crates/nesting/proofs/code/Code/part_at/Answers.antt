@@ -1,5 +1,4 @@
 -- `nesting::code::Code::part_at` meets its contract. Assumes nothing.
-use Rattle.std.proofs.Common.{arith}
 use Rattle.nesting.proofs.Parts.{part_inside, part_past}
 use Rattle.nesting.proofs.code.Code.part_at.Goals as goal
 

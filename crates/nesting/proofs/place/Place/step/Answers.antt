@@ -1,5 +1,5 @@
 -- `nesting::place::Place::step` meets its contract. Assumes nothing.
-use Rattle.std.proofs.Common.{sym, ◌∙◌, inl, inr, rules, arith, eqb-true, eq-eqb}
+use Rattle.std.proofs.Common.{sym, ◌∙◌, inl, inr, rules, eqb-true, eq-eqb}
 use Rattle.nesting.proofs.Laws.{told, good_if, pushed, other_good, else_good, else_bad, end_if_good, end_if_bad, end_loop_good, end_loop_bad, break_good, break_bad}
 use Rattle.nesting.specs.declared.part.Part.TheVariants.{If, Loop}
 use Rattle.nesting.proofs.place.Place.step.Goals as goal

@@ -1,7 +1,0 @@
-use mathlib.Core.Path.{sym}
-use native.Mathlib.Omega.{arith}
-use lib.ListN.{get_or-eq_default}
-use Rattle.bytecode.proofs.word.Goals as goal
-
-pub returns-else-i-t : goal.returns-else-i-t
-returns-else-i-t c = sym (get_or-eq_default c.args.t.now 0 (omega arith))
