@@ -57,7 +57,7 @@ pub enum Refusal {
     BufferTooShort(u64),
 }
 
-// A refusal with its chunk, 0 where there is none.
+// A refusal with its chunk. 01 says: the chunk, 0 if none.
 #[derive(Clone, Copy)]
 pub struct Refused {
     pub chunk: u64,
@@ -79,8 +79,8 @@ pub struct Accepted {
     pub instructions: u64,
 }
 
-// An answer's numbers: as many as count says, and zeros after them.
-#[derive(Clone, Copy)]
+// An answer's numbers: as many as count says, and zeros after them. C gives eight words, zeros behind those that count, and their number.
+#[derive(Clone, Copy, PartialEq, Eq)]
 pub struct Numbers {
     pub count: usize,
     pub words: [u64; 8],

@@ -1,7 +1,7 @@
 // The examination of one instruction: its tests in the Rust's order, the state after it, and whether a flat access met an unknown operand.
 #![tactic(auto, using(crate::proofs::Calls::call_is, bytecode::specs::Meaning::chunk_sig, bytecode::specs::Meaning::chunk_sigs, bytecode::specs::Meaning::chunk_enum_sizes), unfolding(answer::specs::Answer::refusal, answer::specs::Answer::fields, definition::specs::Basics::first, definition::specs::Basics::unless, definition::specs::Basics::pass, definition::specs::Tests::reading, definition::specs::Tests::reading_test, definition::specs::Tests::other_tests, definition::specs::Tests::test_if, definition::specs::Tests::size_test, definition::specs::Tests::places_test, definition::specs::Tests::call_test, definition::specs::Tests::is_unknown, definition::specs::Tests::is_blind, definition::specs::Effects::set_local, definition::specs::Effects::takes, definition::specs::Effects::pushes, definition::specs::Effects::shape_of, definition::specs::Effects::write, definition::specs::Effects::set_top, definition::specs::Walk::after, definition::specs::Walk::height_test, definition::specs::Effects::text_unless_enum, definition::specs::Effects::if_places, shapes::specs::Model::shape_of, shapes::specs::Model::places_of, shapes::specs::Text::packed_of, frame::specs::Model::valued))]
 
-ghost use Rattle.std.specs.Prelude.{◌≡◌, ◌≢◌, List, reverse, ℕ, ◌≤◌, ◌<◌, take, get_or};
+ghost use Rattle.std.specs.Prelude.{◌≡◌, ◌≢◌, reverse, ◌≤◌, ◌<◌, take, get_or};
 ghost use Rattle.definition.specs.Shapes.{unknown};
 ghost use Rattle.definition.specs.Instructions.{Chunk, SetLocal, Call, NewFlat};
 ghost use Rattle.definition.specs.Module.{no_sig};
@@ -18,11 +18,14 @@ ghost use Rattle.rules.specs.Rules.{Rules, Stepped};
 
 use answer::Refusal;
 use bytecode::{Effect, Instr, code};
-use frame::{Frame, OPERANDS};
+use frame::{Floor, Frame};
 use rules::{Context, Moves};
+use shapes::Value;
 use value_layout::{Widths, composite, scalar};
 
 // ---- new composites
+
+// That n operands are there stands in four clauses: it is what these functions need of n and the state together, and no more.
 
 // The baked size against the bytes of the n operands, where they are known.
 fn check_packed_size(s: &Frame, n: usize, size: u32, w: Widths, ip: usize) -> Result<(), Refusal>
@@ -49,7 +52,7 @@ fn new_flat(
     ip: usize,
 ) -> Result<Moves, Refusal>
     requires { n ≤ s.now.state.height }
-    ensures { Rules (chunk_in x.now) ip (NewFlat kind n size) (state_of x.now.locals s.now.state) result }
+    ensures { Rules (chunk_in x.now) ip (NewFlat kind n size) (state_of x.now.locals.count s.now.state) result }
 {
     if kind == composite::ENUM {
         rules::check_enum_size(x.tables, size, ip)?;
@@ -75,7 +78,7 @@ fn check_args(x: &Context, s: &Frame, callee: u32, n: usize, ip: usize) -> Resul
     let k = callee as usize;
     for arg in 0..n.min(bytecode::sig_params(x.tables, k)) {
         let shape = s.operand(n - 1 - arg).shape;
-        let declared = rules::from_wire(bytecode::sig_param(x.tables, k, arg));
+        let declared = bytecode::sig_param(x.tables, k, arg);
         if !rules::shapes_compatible(shape, declared) {
             return Err(Refusal::CallArgMismatch(ip as u64, u64::from(callee), arg as u64));
         }
@@ -85,12 +88,12 @@ fn check_args(x: &Context, s: &Frame, callee: u32, n: usize, ip: usize) -> Resul
 
 fn call(x: &Context, s: &Frame, callee: u32, n: usize, ip: usize) -> Result<Moves, Refusal>
     requires { n ≤ s.now.state.height }
-    ensures { Rules (chunk_in x.now) ip (Call callee n) (state_of x.now.locals s.now.state) result }
+    ensures { Rules (chunk_in x.now) ip (Call callee n) (state_of x.now.locals.count s.now.state) result }
 {
     check_args(x, s, callee, n, ip)?;
     Ok(Moves {
         take: n,
-        value: rules::wire_value(bytecode::sig_return(x.tables, callee as usize)),
+        value: Value::from(bytecode::sig_return(x.tables, callee as usize)),
         times: 1,
         ints: 0,
     })
@@ -98,14 +101,17 @@ fn call(x: &Context, s: &Frame, callee: u32, n: usize, ip: usize) -> Result<Move
 
 // ---- the state after
 
+// `Within i` is asked and is no ghost field of Instr, since `op_depth_effect` takes any. The effect e is made once an instruction, in `examine`, and handed down with `EffectIs`,
+// which says of what instruction it is: two of these look at it, and the last rule takes and pushes by it.
+
 // SetLocal is tested against the parameter of its number, and writes no local outside the frame.
 fn set_local(x: &Context, s: &mut Frame, k: u32, ip: usize) -> Result<(), Refusal>
     requires { 1 ≤ s.old.state.height }
-    ensures { Stepped (chunk_in x.now) x.now.locals ip (SetLocal k) (state_of x.now.locals s.old.state) result s.new.state }
+    ensures { Stepped (chunk_in x.now) x.now.locals.count ip (SetLocal k) (state_of x.now.locals.count s.old.state) result s.new.state }
 {
     let local = k as usize;
     let v = s.operand(0);
-    let declared = rules::from_wire(bytecode::sig_param(x.tables, x.chunk, local));
+    let declared = bytecode::sig_param(x.tables, x.chunk, local);
     if !rules::shapes_compatible(v.shape, declared) {
         return Err(Refusal::LocalTypeMismatch(ip as u64, u64::from(k)));
     }
@@ -120,7 +126,7 @@ fn rule_of(x: &Context, s: &Frame, i: Instr, e: Effect, ip: usize) -> Result<Mov
     requires other { i.code ≢ SET_LOCAL }
     requires effect { EffectIs i x.now.index_trap x.now.host_trap e }
     requires need { e.need ≤ s.now.state.height }
-    ensures { Rules (chunk_in x.now) ip (any_instr_of i) (state_of x.now.locals s.now.state) result }
+    ensures { Rules (chunk_in x.now) ip (any_instr_of i) (state_of x.now.locals.count s.now.state) result }
 {
     match i.code {
         code::CALL => call(x, s, i.a, i.b as usize, ip),
@@ -134,7 +140,7 @@ fn apply_op(x: &Context, s: &mut Frame, i: Instr, e: Effect, ip: usize) -> Resul
     requires within { Within i }
     requires effect { EffectIs i x.now.index_trap x.now.host_trap e }
     requires need { e.need ≤ s.old.state.height }
-    ensures { Stepped (chunk_in x.now) x.now.locals ip (any_instr_of i) (state_of x.now.locals s.old.state) result s.new.state }
+    ensures { Stepped (chunk_in x.now) x.now.locals.count ip (any_instr_of i) (state_of x.now.locals.count s.old.state) result s.new.state }
 {
     if i.code == code::SET_LOCAL {
         return set_local(x, s, i.a, ip);
@@ -180,10 +186,9 @@ pub fn met_unknown(s: &Frame, i: Instr) -> bool
 }
 
 // The examination of one instruction on a state, which becomes the one after it where the instruction passes.
-pub fn examine(x: &Context, s: &mut Frame, i: Instr, ip: usize, floor: usize) -> Result<(), Refusal>
-    requires within { Within i }
-    requires floor { floor ≤ OPERANDS }
-    ensures { Examined x.now i ip floor s.old.state result s.new.state }
+pub fn examine(x: &Context, s: &mut Frame, i: Instr, ip: usize, floor: Floor) -> Result<(), Refusal>
+    requires { Within i }
+    ensures { Examined x.now i ip floor.height s.old.state result s.new.state }
 {
     let e = bytecode::op_depth_effect(i, x.index_trap, x.host_trap);
     rules::check_need(s.state.height, e.need as usize, floor, ip)?;

@@ -55,5 +55,5 @@ writes_none r h e =
 
 -- ── How many operands it needs ────────────────────────────────────────────────────────────
 
-pub need_is : (x : Context) (ip : ℕ) (i : Instr) (e : Effect) → InstrIs x.tables.now (x.first + ip) i → EffectIs i x.index_trap x.host_trap e → e.need ≡ need (chunk_in x) (instr_in x ip)
+pub need_is : (x : Context) (ip : ℕ) (i : Instr) (e : Effect) → InstrIs x.tables.now (x.code.first + ip) i → EffectIs i x.index_trap x.host_trap e → e.need ≡ need (chunk_in x) (instr_in x ip)
 need_is x ip i e I E = (effect_in x i e E).0 ∙ ap (need (chunk_in x)) I.same

@@ -122,7 +122,7 @@ one_needed c i e q g =
 
 module _ (x : Context) (ip : ℕ) (s : State) {k : Control} (leads : control (instr_in x ip) ≡ k) (g : Guard k) where
   abbrev S : AnyState
-  S = state_of x.locals s
+  S = state_of x.locals.count s
 
   -- the instruction, as a jump
   there : (j : Jump) × (instr_in x ip ≡ AnyInstr.jump j)
@@ -134,28 +134,28 @@ module _ (x : Context) (ip : ℕ) (s : State) {k : Control} (leads : control (in
 
   module _ (n floor : ℕ) (h h' : List ℕ) where
     -- both sheets after it
-    pub guard_marked : {r : Outcome Unit Refusal} → Guarded (x.first + ip) n ip floor s.height h h' r → (bl : List ℕ) → sheets_of h' bl ≡ mark (chunk_in x) ip (instr_in x ip) S (sheets_of h bl)
+    pub guard_marked : {r : Outcome Unit Refusal} → Guarded (x.code.first + ip) n ip floor s.height h h' r → (bl : List ℕ) → sheets_of h' bl ≡ mark (chunk_in x) ip (instr_in x ip) S (sheets_of h bl)
     unfolding mark mark_blind
     guard_marked G bl =
-        let base : (chunk_in x).base ≡ x.first = chunk_base x.tables.now x.chunk ∙ sym x.of.first_is in
+        let base : (chunk_in x).base ≡ x.code.first = chunk_base x.tables.now x.chunk ∙ sym x.of.first_is in
         ap (λ (l : List ℕ). sheets_of l bl)
-        (G.marks ∙ ap (λ (m : ℕ). set h (m + ip) (suc s.height)) (sym base) ∙ ap (λ (m : ℕ). set h ((chunk_in x).base + ip) (suc m)) (sym (height_is x.locals s)))
+        (G.marks ∙ ap (λ (m : ℕ). set h (m + ip) (suc s.height)) (sym base) ∙ ap (λ (m : ℕ). set h ((chunk_in x).base + ip) (suc m)) (sym (height_is x.locals.count s)))
         ∙ ap (λ (z : Bool). sheets_of (set h ((chunk_in x).base + ip) (suc (height S))) (mark_blind z ((chunk_in x).base + ip) bl)) not_blind
 
     module _ (needs : n ≡ need (chunk_in x) (instr_in x ip)) where
       as_jump : n ≡ need (chunk_in x) (AnyInstr.jump there.0)
       as_jump = needs ∙ ap (need (chunk_in x)) there.1
 
-      pub guard_passed : s.height ≤ 64 → Guarded (x.first + ip) n ip floor s.height h h' (Ok tt) → examine (chunk_in x) ip floor (instr_in x ip) S ≡ ok (popped n S)
+      pub guard_passed : s.height ≤ 64 → Guarded (x.code.first + ip) n ip floor s.height h h' (Ok tt) → examine (chunk_in x) ip floor (instr_in x ip) S ≡ ok (popped n S)
       unfolding refusal
       guard_passed low G =
           ap (λ (z : AnyInstr). examine (chunk_in x) ip floor z S) there.1
-          ∙ sym (examine_goes (chunk_in x) ip floor (AnyInstr.jump there.0) S s.height n (height_is x.locals s) as_jump G.tests)
-          ∙ left (chunk_in x) there.0 ip S (subst (λ (z : ℕ). z ≤ 64) (sym (height_is x.locals s)) low)
+          ∙ sym (examine_goes (chunk_in x) ip floor (AnyInstr.jump there.0) S s.height n (height_is x.locals.count s) as_jump G.tests)
+          ∙ left (chunk_in x) there.0 ip S (subst (λ (z : ℕ). z ≤ 64) (sym (height_is x.locals.count s)) low)
           ∙ ap (λ (z : ℕ). ok (popped z S)) (sym as_jump)
 
-      pub guard_refused : (f : Refusal) → Guarded (x.first + ip) n ip floor s.height h h' (Err f) → examine (chunk_in x) ip floor (instr_in x ip) S ≡ refused (fields f)
+      pub guard_refused : (f : Refusal) → Guarded (x.code.first + ip) n ip floor s.height h h' (Err f) → examine (chunk_in x) ip floor (instr_in x ip) S ≡ refused (fields f)
       unfolding refusal pass
       guard_refused f G =
           ap (λ (z : AnyInstr). examine (chunk_in x) ip floor z S) there.1
-          ∙ sym (examine_stops (chunk_in x) ip floor (AnyInstr.jump there.0) S s.height n (height_is x.locals s) as_jump f S G.tests)
+          ∙ sym (examine_stops (chunk_in x) ip floor (AnyInstr.jump there.0) S s.height n (height_is x.locals.count s) as_jump f S G.tests)

@@ -7,9 +7,11 @@ use mathlib.Core.List.{List, [], ◌∷◌}
 use Prim.Native.Nat.{ℕ, zero, suc, ◌+◌, ◌-◌, ◌≤◌, ◌<◌}
 use native.Mathlib.Omega.{arith}
 use native.Mathlib.Decide.{dec_lt}
-use borrow.Author.Tests.{eq-eqb, ne_eqb, lt-ltb, le-ltb}
+use borrow.Author.Tests.{eq-eqb, eqb-true, ne_eqb, lt-ltb, le-ltb}
 use lib.Dec.{eqb}
 use lib.ListN.{set}
+use Rattle.std.specs.Prelude.{Option as Maybe}
+use Rattle.std.specs.Bool.{then_some}
 use Rattle.definition.specs.Basics.{ok, refused, ◌>>=◌}
 use Rattle.definition.specs.Shapes.{Shape, unknown, same_shapes}
 use Rattle.definition.specs.Instructions.{Instr as AnyInstr, Chunk, Control, ends, else_to, control, control_of, control_at, instr_at}
@@ -17,6 +19,8 @@ use Rattle.definition.specs.Nesting.{else_of, else_if, else_at}
 use Rattle.definition.specs.Effects.{set_local}
 use Rattle.definition.specs.Walk.{State as AnyState, Sheets, Breaks as AnyBreaks, joined, unequal, height, join_states, add_joined, add_break, join_tested, join_ends}
 use Rattle.definition.specs.Walk.{leave, neutral, last_end, forget_one, names_local, forget, with_locals}
+use Rattle.theorems.specs.Cover.{no_false}
+use Rattle.bytecode.specs.Lists.{maybe}
 use Rattle.frame.specs.declared.State.{State}
 use Rattle.frame.specs.Model.{state_of, stack_of, locals_of}
 use Rattle.shapes.proofs.Lists.{down-length}
@@ -129,6 +133,16 @@ not_else k a h e = elim (dec_lt k 64) [
     go (suc (suc (suc (suc (suc (suc (suc (suc (suc zero))))))))) u v = refl
     go (suc (suc (suc (suc (suc (suc (suc (suc (suc (suc zero)))))))))) u v = refl
     go (suc (suc (suc (suc (suc (suc (suc (suc (suc (suc (suc m))))))))))) u v = absurd (omega arith)
+
+-- the Else of an If whose target stands behind an instruction with a code and a first operand
+pub else_by_code : (c : Chunk) (ip t : ℕ) (i : AnyInstr) → instr_at c (t - 1) ≡ some i → ip + 1 < t → (k a : ℕ) → k < 75 → control i ≡ leads k a →
+    (r : Maybe ℕ) → r ≡ then_some (eqb k 67) a → maybe r ≡ else_at c ip t
+unfolding leads
+else_by_code c ip t i there h k a low g r e = rw e (go (eqb k 67) (eqb-true k 67) (λ n q. no_false (sym n ∙ eq-eqb k 67 q)))
+  where
+    go : (b : Bool) → (b ≡ true → k ≡ 67) → (b ≡ false → k ≢ 67) → maybe (then_some b a) ≡ else_at c ip t
+    go true y n = else_there c ip t i there h a (g ∙ ap (λ (j : ℕ). leads j a) (y refl))
+    go false y n = else_other c ip t i there h (ap else_of g ∙ not_else k a low (n refl))
 
 -- ── Forgetting ────────────────────────────────────────────────────────────────────────────
 

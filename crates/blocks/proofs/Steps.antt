@@ -53,14 +53,14 @@ module _ (c : Chunk) (w : Walker) (ip end floor : ℕ) (s : AnyState) (b : AnyBr
 
 -- Loop, Break and Return mark the height, and no blind entry.
 pub quiet_mark : (x : Context) (ip : ℕ) (s : State) (h bl h' : List ℕ) {k : Control} → control (instr_in x ip) ≡ k → is_quiet k ≡ true →
-    h' ≡ set h (x.first + ip) (suc s.height) → sheets_of h' bl ≡ mark (chunk_in x) ip (instr_in x ip) (state_of x.locals s) (sheets_of h bl)
+    h' ≡ set h (x.code.first + ip) (suc s.height) → sheets_of h' bl ≡ mark (chunk_in x) ip (instr_in x ip) (state_of x.locals.count s) (sheets_of h bl)
 unfolding mark mark_blind is_blind
 quiet_mark x ip s h bl h' e q m =
     let c : Chunk = chunk_in x in
-    let base : c.base ≡ x.first = chunk_base x.tables.now x.chunk ∙ sym x.of.first_is in
-    let S : AnyState = state_of x.locals s in
+    let base : c.base ≡ x.code.first = chunk_base x.tables.now x.chunk ∙ sym x.of.first_is in
+    let S : AnyState = state_of x.locals.count s in
     ap (λ (l : List ℕ). sheets_of l bl)
-    (m ∙ ap (λ (n : ℕ). set h (n + ip) (suc s.height)) (sym base) ∙ ap (λ (n : ℕ). set h (c.base + ip) (suc n)) (sym (height_is x.locals s)))
+    (m ∙ ap (λ (n : ℕ). set h (n + ip) (suc s.height)) (sym base) ∙ ap (λ (n : ℕ). set h (c.base + ip) (suc n)) (sym (height_is x.locals.count s)))
     ∙ ap (λ (z : _). sheets_of (set h (c.base + ip) (suc (height S))) (mark_blind (is_blind z S.stack) (c.base + ip) bl)) (sym (quiet c (instr_in x ip) e q).reads)
 
 -- ── Closers ───────────────────────────────────────────────────────────────────────────────
@@ -103,7 +103,7 @@ below_75 k h l = omega arith
 
 module _ (x : Context) (ip floor : ℕ) (s : State) (low : s.height ≤ 64) (b : AnyBreaks) (h h' : List ℕ) (code a : ℕ) (there : Coded x ip code a) (end : ℕ) (bl : List ℕ) where
   abbrev S : AnyState
-  S = state_of x.locals s
+  S = state_of x.locals.count s
 
   abbrev p : Standing
   p = record { state = S; breaks = b; sheets = sheets_of h bl }
@@ -125,23 +125,23 @@ module _ (x : Context) (ip floor : ℕ) (s : State) (low : s.height ≤ 64) (b :
   led e = ap (λ (j : ℕ). visit (leads j a)) e
 
   module _ (n : ℕ) (needs : n ≡ need c (instr_in x ip)) (e : code ≡ 64) where
-    pub trap_refused : (f : Refusal) → Guarded (x.first + ip) n ip floor s.height h h' (Err f) → visit (leads code a) ≡ refused (fields f)
+    pub trap_refused : (f : Refusal) → Guarded (x.code.first + ip) n ip floor s.height h h' (Err f) → visit (leads code a) ≡ refused (fields f)
     unfolding leads
     trap_refused f G = led e ∙ instr_refused c (full c) ip end floor S b (sheets_of h bl) (instr_in x ip) stops tt _ (guard_refused x ip s (at e) tt n floor h h' needs f G)
 
-    pub trap_passed : Guarded (x.first + ip) n ip floor s.height h h' (Ok tt) → visit (leads code a) ≡ done b h'
+    pub trap_passed : Guarded (x.code.first + ip) n ip floor s.height h h' (Ok tt) → visit (leads code a) ≡ done b h'
     unfolding leads
     trap_passed G =
         led e ∙ instr_stops c (full c) ip end floor S b (sheets_of h bl) (instr_in x ip) _ (guard_passed x ip s (at e) tt n floor h h' needs low G)
         ∙ ap (λ (z : Sheets). ok (record { fall = none; breaks = b; sheets = z })) (sym (guard_marked x ip s (at e) tt n floor h h' G bl))
 
   module _ (e : code ≡ 66) where
-    pub break_if_refused : (f : Refusal) → Guarded (x.first + ip) 1 ip floor s.height h h' (Err f) → visit (leads code a) ≡ refused (fields f)
+    pub break_if_refused : (f : Refusal) → Guarded (x.code.first + ip) 1 ip floor s.height h h' (Err f) → visit (leads code a) ≡ refused (fields f)
     unfolding leads
     break_if_refused f G =
         led e ∙ instr_refused c (full c) ip end floor S b (sheets_of h bl) (instr_in x ip) (break_if_to a) tt _ (guard_refused x ip s (at e) tt 1 floor h h' (one_needed c (instr_in x ip) (at e) refl tt) f G)
 
-    pub break_if_passed : Guarded (x.first + ip) 1 ip floor s.height h h' (Ok tt) → (u : AnyState) (k : AnyBreaks) → u ≡ popped 1 S → k ≡ add_break b u →
+    pub break_if_passed : Guarded (x.code.first + ip) 1 ip floor s.height h h' (Ok tt) → (u : AnyState) (k : AnyBreaks) → u ≡ popped 1 S → k ≡ add_break b u →
         visit (leads code a) ≡ full c (ip + 1) end floor u k (sheets_of h' bl)
     unfolding leads
     break_if_passed G u k f g =
@@ -152,12 +152,12 @@ module _ (x : Context) (ip floor : ℕ) (s : State) (low : s.height ≤ 64) (b :
         ∙ ap (λ (j : ℕ). full c j end floor u k (sheets_of h' bl)) (sym (add-one ip))
 
   module _ (e : code ≡ 65) where
-    pub if_refused : (f : Refusal) → Guarded (x.first + ip) 1 ip floor s.height h h' (Err f) → visit (leads code a) ≡ refused (fields f)
+    pub if_refused : (f : Refusal) → Guarded (x.code.first + ip) 1 ip floor s.height h h' (Err f) → visit (leads code a) ≡ refused (fields f)
     unfolding leads
     if_refused f G =
         led e ∙ instr_refused c (full c) ip end floor S b (sheets_of h bl) (instr_in x ip) (if_to a) tt _ (guard_refused x ip s (at e) tt 1 floor h h' (one_needed c (instr_in x ip) (at e) refl tt) f G)
 
-    pub if_passed : Guarded (x.first + ip) 1 ip floor s.height h h' (Ok tt) → (u : AnyState) → u ≡ popped 1 S →
+    pub if_passed : Guarded (x.code.first + ip) 1 ip floor s.height h h' (Ok tt) → (u : AnyState) → u ≡ popped 1 S →
         visit (leads code a) ≡ walk_arms (full c) ip a end floor u b (sheets_of h' bl) (else_at c ip a)
     unfolding leads
     if_passed G u f =
@@ -165,7 +165,7 @@ module _ (x : Context) (ip floor : ℕ) (s : State) (low : s.height ≤ 64) (b :
         ∙ ap (λ (z : AnyState). walk_arms (full c) ip a end floor z b (mark c ip (instr_in x ip) S (sheets_of h bl)) (else_at c ip a)) (sym f)
         ∙ ap (λ (z : Sheets). walk_arms (full c) ip a end floor u b z (else_at c ip a)) (sym (guard_marked x ip s (at e) tt 1 floor h h' G bl))
 
-  module _ (m : h' ≡ set h (x.first + ip) (suc s.height)) where
+  module _ (m : h' ≡ set h (x.code.first + ip) (suc s.height)) where
     pub break_passed : code ≡ 71 → (k : AnyBreaks) → k ≡ add_break b S → visit (leads code a) ≡ done k h'
     unfolding leads walk_instr is_quiet
     break_passed e k g =

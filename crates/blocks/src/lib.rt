@@ -1,7 +1,7 @@
 // What the walk does at one instruction that does not lead straight onward, and where paths meet: breaks, joins, leaving a loop, forgetting.
 #![tactic(auto)]
 
-ghost use Rattle.std.specs.Prelude.{◌≡◌, false, ◌≢◌, List, [], ℕ, suc, ◌+◌, ◌-◌, ◌≤◌, ◌<◌, length, set, replicate, Ok};
+ghost use Rattle.std.specs.Prelude.{◌≡◌, false, ◌≢◌, List, [], ℕ, ◌+◌, ◌-◌, ◌≤◌, ◌<◌, length, replicate, Ok};
 ghost use Rattle.definition.specs.Effects.{need};
 ghost use Rattle.definition.specs.Nesting.{else_at};
 ghost use Rattle.definition.specs.Shapes.{unknown};
@@ -9,16 +9,22 @@ ghost use Rattle.definition.specs.Walk.{params, start_locals, Sheets, add_break,
 ghost use Rattle.bytecode.specs.declared.code.TheConstants.{IF, LOOP};
 ghost use Rattle.bytecode.specs.Lists.{maybe};
 ghost use Rattle.bytecode.specs.Meaning.{chunk_of};
-ghost use Rattle.frame.specs.declared.TheConstants.{OPERANDS, LOCALS};
+ghost use Rattle.frame.specs.declared.TheConstants.{OPERANDS};
 ghost use Rattle.frame.specs.Model.{state_of};
+ghost use Rattle.frame.specs.Slots.{SameOperands};
 ghost use Rattle.rules.specs.Answers.{chunk_in};
-ghost use Rattle.stretch.specs.Stretch.{straight, leads, sheets_of};
+ghost use Rattle.stretch.specs.Stretch.{straight, sheets_of};
 ghost use Rattle.answer.specs.declared.Refusal.TheVariants.{LoopNotNeutral};
+
+mod visiting;
 
 use answer::Refusal;
 use bytecode::{Span, code};
-use frame::Frame;
+use frame::{Floor, Frame, Locals};
 use rules::Context;
+use shapes::Value;
+use std::ops::Range;
+pub use visiting::Visit;
 
 // How a stretch was walked: no path comes to its end, or it falls through. A refused one is an error.
 #[derive(Clone, Copy)]
@@ -27,7 +33,7 @@ pub enum Flow {
     Falls,
 }
 
-// The breaks of a loop so far: none, one joined state, or the first unequal pair of heights.
+// The breaks of a loop so far: none, one joined state, or the first unequal pair of heights. Three cases and no Result: the unequal pair is no failure until the loop is left.
 #[derive(Clone, Copy)]
 pub enum Pending {
     Nothing,
@@ -58,9 +64,8 @@ impl Breaks {
 
     // One more break, in order.
     #[tactic(auto, using(crate::proofs::Laws::add_same, crate::proofs::Laws::add_other), unfolding(definition::specs::Walk::add_break))]
-    pub fn add(&mut self, s: &Frame, locals: usize)
-        requires { locals ≤ LOCALS }
-        ensures { breaks_of locals self.new ≡ add_break (breaks_of locals self.old) (state_of locals s.now.state) }
+    pub fn add(&mut self, s: &Frame, locals: Locals)
+        ensures { breaks_of locals.count self.new ≡ add_break (breaks_of locals.count self.old) (state_of locals.count s.now.state) }
     {
         match self.pending {
             Pending::Nothing => {
@@ -81,7 +86,7 @@ impl Breaks {
 }
 
 ghost use Rattle.blocks.specs.Outcomes.{breaks_of, standing, fall_of, end_of, walked_of, left_of, after_last, forgotten};
-ghost use Rattle.blocks.specs.Visits.{SpanOf, instr_in, Coded, Guarded, Visited};
+ghost use Rattle.blocks.specs.Visits.{SpanOf, instr_in, Guarded, Leaf, stands};
 
 // ---- the ends of two arms
 
@@ -93,10 +98,9 @@ pub fn join_ends(
     first: Flow,
     second: Flow,
     ip: usize,
-    locals: usize,
+    locals: Locals,
 ) -> Result<Flow, Refusal>
-    requires { locals ≤ LOCALS }
-    ensures { end_of result (state_of locals s.new.state) ≡ join_ends ip (fall_of first (state_of locals s.old.state)) (fall_of second (state_of locals other.now.state)) }
+    ensures { end_of result (state_of locals.count s.new.state) ≡ join_ends ip (fall_of first (state_of locals.count s.old.state)) (fall_of second (state_of locals.count other.now.state)) }
 {
     match (first, second) {
         (Flow::Ended, _) => {
@@ -123,9 +127,8 @@ pub fn join_ends(
 
 // After the loop at ip: its breaks, or the state as it is.
 #[tactic(auto, unfolding(definition::specs::Walk::leave, answer::specs::Answer::fields))]
-pub fn leave_loop(s: &mut Frame, b: &Breaks, ip: usize, locals: usize) -> Result<(), Refusal>
-    requires { locals ≤ LOCALS }
-    ensures { (sh : Sheets) → left_of result (state_of locals s.new.state) sh ≡ leave ip (breaks_of locals b.now) sh (state_of locals s.old.state) }
+pub fn leave_loop(s: &mut Frame, b: &Breaks, ip: usize, locals: Locals) -> Result<(), Refusal>
+    ensures { (sh : Sheets) → left_of result (state_of locals.count s.new.state) sh ≡ leave ip (breaks_of locals.count b.now) sh (state_of locals.count s.old.state) }
 {
     match b.pending {
         Pending::Nothing => Ok(()),
@@ -143,10 +146,9 @@ pub fn leave_head(
     head: &Frame,
     b: &Breaks,
     ip: usize,
-    locals: usize,
+    locals: Locals,
 ) -> Result<(), Refusal>
-    requires { locals ≤ LOCALS }
-    ensures { (sh : Sheets) → left_of result (state_of locals s.new.state) sh ≡ leave ip (breaks_of locals b.now) sh (state_of locals head.now.state) }
+    ensures { (sh : Sheets) → left_of result (state_of locals.count s.new.state) sh ≡ leave ip (breaks_of locals.count b.now) sh (state_of locals.count head.now.state) }
 {
     s.copy(head, locals);
     leave_loop(s, b, ip, locals)
@@ -167,10 +169,9 @@ pub fn last_end(
     head: &Frame,
     b: &Breaks,
     ip: usize,
-    locals: usize,
+    locals: Locals,
 ) -> Result<(), Refusal>
-    requires { locals ≤ LOCALS }
-    ensures { (h bl : List ℕ) → left_of result (state_of locals s.new.state) (sheets_of h bl) ≡ after_last ip (state_of locals head.now.state) (walked_of (Ok flow) (standing locals s.old.state b.now h bl)) }
+    ensures { let n = locals.count in (h bl : List ℕ) → left_of result (state_of n s.new.state) (sheets_of h bl) ≡ after_last ip (state_of n head.now.state) (walked_of (Ok flow) (standing n s.old.state b.now h bl)) }
 {
     if matches!(flow, Flow::Ended) {
         return leave_head(s, head, b, ip, locals);
@@ -183,27 +184,19 @@ pub fn last_end(
 
 // ---- one instruction
 
-// The height sheet holds 1 + the height before an instruction that is examined.
-pub fn mark_height(heights: &mut [u8], at: usize, h: usize)
-    requires { (at < length heights.old) × (h ≤ OPERANDS) }
-    ensures { heights.new ≡ set heights.old at (suc h) }
-{
-    heights[at] = (h + 1) as u8;
-}
-
 // The mark, at its place in the sheet, and the tests of an If, a BreakIf or a Trap, which looks at the height alone.
 pub fn guard_at(
     heights: &mut [u8],
     at: usize,
     need: usize,
     ip: usize,
-    floor: usize,
+    floor: Floor,
     height: usize,
 ) -> Result<(), Refusal>
-    requires { (at < length heights.old) × (floor ≤ OPERANDS) × (height ≤ OPERANDS) × (need < 4294967296) }
-    ensures { Guarded at need ip floor height heights.old heights.new result }
+    requires { (at < length heights.old) × (height ≤ OPERANDS) × (need < 4294967296) }
+    ensures { Guarded at need ip floor.height height heights.old heights.new result }
 {
-    mark_height(heights, at, height);
+    stretch::mark_height(heights, at, height);
     rules::check_need(height, need, floor, ip)
 }
 
@@ -216,40 +209,36 @@ pub fn else_of(t: &[u64], chunk: Span, ip: usize, target: usize) -> Option<usize
         return None;
     }
     let i = bytecode::instr_at(t, chunk.first + (target - 1));
-    if i.code == code::ELSE {
-        Some(i.a as usize)
-    } else {
-        None
-    }
+    (i.code == code::ELSE).then_some(i.a as usize)
 }
 
 // How many operands the instruction at ip needs.
 #[tactic(auto, using(crate::proofs::Codes::need_is))]
 fn need_at(x: &Context, ip: usize) -> usize
-    requires { ip < x.now.count }
+    requires { ip < x.now.code.count }
     ensures need { result ≡ need (chunk_in x.now) (instr_in x.now ip) }
     ensures low { result < 4294967296 }
 {
-    let i = bytecode::instr_at(x.tables, x.first + ip);
+    let i = bytecode::instr_at(x.tables, x.code.first + ip);
     bytecode::op_depth_effect(i, x.index_trap, x.host_trap).need as usize
 }
 
-// An instruction that leads elsewhere, or nowhere, and opens no block.
+// An instruction that leads elsewhere, or nowhere, and opens no block: by its code, as bytecode `code` says why. code < 75 is asked, and it is no
+// `ops::Row`: the code is the number that the instruction has.
 #[tactic(auto, using(crate::proofs::Steps::break_passed, crate::proofs::Steps::returns_passed, crate::proofs::Steps::closer_refused, crate::proofs::Steps::break_if_passed), unfolding(answer::specs::Answer::fields))]
 pub fn leaf_at(
-    x: &Context,
+    v: &Visit,
     heights: &mut [u8],
     s: &mut Frame,
     b: &mut Breaks,
     code: u8,
-    ip: usize,
-    floor: usize,
 ) -> Result<Flow, Refusal>
-    requires inside { (x.now.first + x.now.count ≤ length heights.old) × (ip < x.now.count) × (floor ≤ OPERANDS) }
+    requires room { v.now.x.now.code.first + v.now.x.now.code.count ≤ length heights.old }
     requires coded { (code < 75) × (straight code ≡ false) × (code ≢ IF) × (code ≢ LOOP) }
-    ensures { (target : ℕ) → Coded x.now ip code target → Visited x.now ip floor (standing x.now.locals s.old.state b.old heights.old) result (standing x.now.locals s.new.state b.new heights.new) (leads code target) }
+    ensures { let x = v.now.x.now in Leaf v.now code (stands x s.old.state b.old heights.old) result (stands x s.new.state b.new heights.new) }
 {
-    let at = x.first + ip;
+    let Visit { x, ip, floor, .. } = *v;
+    let at = x.code.first + ip;
     match code {
         code::TRAP => {
             guard_at(heights, at, need_at(x, ip), ip, floor, s.state.height)?;
@@ -264,12 +253,12 @@ pub fn leaf_at(
         }
         // Examined without a test, as a Return.
         code::BREAK => {
-            mark_height(heights, at, s.state.height);
+            stretch::mark_height(heights, at, s.state.height);
             b.add(s, x.locals);
             Ok(Flow::Ended)
         }
         code::RETURN => {
-            mark_height(heights, at, s.state.height);
+            stretch::mark_height(heights, at, s.state.height);
             Ok(Flow::Ended)
         }
         // A closer: no walk of a nested chunk comes to one.
@@ -279,19 +268,19 @@ pub fn leaf_at(
 
 // ---- locals
 
-// Each local that an instruction of the chunk from start to before end writes becomes unknown.
+// Each local that an instruction of a range of the chunk's writes becomes unknown.
 pub fn invalidate_written_locals(
     t: &[u64],
     chunk: Span,
     s: &mut Frame,
-    locals: usize,
-    start: usize,
-    end: usize,
+    locals: Locals,
+    ips: Range<usize>,
 )
-    requires { (chunk.first + chunk.count ≤ 4096) × (end ≤ chunk.count) × (locals ≤ LOCALS) }
-    ensures { (k : ℕ) → SpanOf t.now k chunk → state_of locals s.new.state ≡ forgotten (chunk_of t.now k) start end (state_of locals s.old.state) }
+    requires { (chunk.first + chunk.count ≤ 4096) × (ips.end ≤ chunk.count) }
+    ensures state { (k : ℕ) → SpanOf t.now k chunk → state_of locals.count s.new.state ≡ forgotten (chunk_of t.now k) ips.start ips.end (state_of locals.count s.old.state) }
+    ensures operands { SameOperands s.old.state s.new.state }
 {
-    for p in start..end {
+    for p in ips.start..ips.end {
         let i = bytecode::instr_at(t, chunk.first + p);
         if i.code == code::SET_LOCAL {
             s.set_local(i.a as usize, shapes::unknown_value(), locals);
@@ -301,12 +290,12 @@ pub fn invalidate_written_locals(
 
 // The locals in which the walk of chunk k begins: the parameters, and the rest unknown, as a new frame has them.
 #[tactic(auto, using(crate::proofs::Start::starting_none, crate::proofs::Start::starting_more, crate::proofs::Start::starting_all, crate::proofs::Start::param_is))]
-pub fn start_locals(t: &[u64], k: usize, s: &mut Frame, locals: usize)
-    requires { (state_of locals s.old.state ≡ record { stack = []; locals = replicate locals unknown }) × (locals ≤ LOCALS) }
-    ensures { state_of locals s.new.state ≡ record { stack = []; locals = start_locals locals (params (chunk_of t.now k)) } }
+pub fn start_locals(t: &[u64], k: usize, s: &mut Frame, locals: Locals)
+    requires { state_of locals.count s.old.state ≡ record { stack = []; locals = replicate locals.count unknown } }
+    ensures { state_of locals.count s.new.state ≡ record { stack = []; locals = start_locals locals.count (params (chunk_of t.now k)) } }
 {
-    for i in 0..locals {
-        let v = rules::wire_value(bytecode::sig_param(t, k, i));
+    for i in 0..locals.count {
+        let v = Value::from(bytecode::sig_param(t, k, i));
         s.set_local(i, v, locals);
     }
 }

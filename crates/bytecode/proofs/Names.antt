@@ -8,7 +8,6 @@ use native.Mathlib.Decide.{dec_lt}
 use native.Mathlib.Nat.{pow-succ', zero-div, div-div-eq-div-mul}
 use native.Mathlib.Numerals.{add-one}
 use native.Mathlib.Omega.{arith}
-use borrow.Author.Tests.{eq-eqb}
 use lib.Dec.{T, eqb, ltb, leb, leb→le, ltb→lt, eqb→eq}
 use lib.Ieee.Fits.{and_l, and_r}
 use lib.ListN.{length, get_or, take, drop, take-append-drop, length-take, length-drop, drop_of_length-le}
@@ -22,34 +21,31 @@ use Rattle.definition.specs.Format.{Bytes, bytes}
 use Rattle.definition.specs.Ops.{ops, row}
 use Rattle.bytecode.specs.Tables.{all_below, at_each}
 use Rattle.bytecode.specs.Lists.{tabulate}
-use Rattle.bytecode.specs.Names.{names, name_at, lookup_from, lookup, little, AllBytes, Packs, has_words, place_of, text_place, index_of, placing, places}
+use Rattle.std.specs.Bool.{then_some}
+use Rattle.bytecode.specs.declared.ops.row.Row.{Row}
+use Rattle.bytecode.specs.declared.ops.rows.Op.{Op}
+use Rattle.bytecode.specs.Names.{told, row_number, names, name_at, lookup_from, lookup, little, AllBytes, words_of, packed_of, Packs, place_of, text_place, index_of, placing, places}
 use Rattle.bytecode.specs.declared.ops.Packed.{Packed}
+use Rattle.bytecode.specs.declared.ops.rows.TheConstants.{PLACES}
+use Rattle.bytecode.specs.contracts.ops.PackedPartialEq.TheImpl.{ghosts as packed_eq}
+use Rattle.std.proofs.lemmas.Bool.Decides.{same_from_decides, Decides-eqb, Decides-and, Decides-like}
+use Rattle.std.proofs.lemmas.Slice.Eq.{bytes_eq-Decides, compares_Decides}
+use Rattle.std.specs.Bool.{Decides}
 
 -- ── The same bytes ────────────────────────────────────────────────────────────────────────
 
-pub same_is : (xs ys : Bytes) → T (same_places xs ys) → xs ≡ ys
+same_decides : (xs ys : Bytes) → Decides (same_places xs ys) (xs ≡ ys)
 unfolding same_places
-same_is [] [] t = refl
-same_is [] (y ∷ ys) t = absurd t
-same_is (x ∷ xs) [] t = absurd t
-same_is (x ∷ xs) (y ∷ ys) t =
-    let e : x ≡ y = eqb→eq x y (and_l (eqb x y) (same_places xs ys) t) in
-    let r : xs ≡ ys = same_is xs ys (and_r (eqb x y) (same_places xs ys) t) in
-    cc
-
-same_itself : (xs : Bytes) → same_places xs xs ≡ true
-unfolding same_places
-same_itself [] = refl
-same_itself (x ∷ xs) = rw (eq-eqb x x refl) (same_itself xs)
+same_decides = compares_Decides same_places (record { empty = refl; shorter = λ y ys. refl; longer = λ x xs. refl; heads = λ x y xs ys. refl })
 
 same_yes : (xs ys : Bytes) → xs ≡ ys → true ≡ same_places xs ys
-same_yes xs ys e = rw e (sym (same_itself ys))
+same_yes xs ys e = sym ((same_decides xs ys).1 e)
 
 same_no : (xs ys : Bytes) → (xs ≡ ys → ⊥) → false ≡ same_places xs ys
 same_no xs ys n = go (same_places xs ys) refl
   where
     go : (b : Bool) → same_places xs ys ≡ b → false ≡ b
-    go true e = absurd (n (same_is xs ys (subst T (sym e) tt)))
+    go true e = absurd (n ((same_decides xs ys).0 e))
     go false e = refl
 
 -- ── Packing loses nothing ─────────────────────────────────────────────────────────────────
@@ -152,30 +148,31 @@ true_false e = subst T e tt
 
 -- ── A packed text against a row ───────────────────────────────────────────────────────────
 
-itself : (n : ℕ) → eqb n n ≡ true
-itself n = eq-eqb n n refl
+module _ (p : Packed) (text : Bytes) (k : Packs text p) where
+  words_is : p.words ≡ words_of text
+  unfolding packed_of
+  words_is = ap (λ (q : Packed). q.words) k.packed
 
-module _ (i : ℕ) (h : i < 75) (p : Packed) (text : Bytes) (k : Packs text p) where
-  -- the same words and the same length are the same bytes,
-  words_name : T (has_words i p) → name_at i ≡ text
-  words_name t =
-      let three = and_l _ (eqb (length (name_at i)) p.length) t in
-      let two = and_l _ (eqb (little (take 8 (drop 16 (name_at i)))) p.third) three in
-      words-one (name_at i) text (name_all i h) k.all (name_short i h) (eqb→eq _ _ (and_r _ (eqb (length (name_at i)) p.length) t) ∙ k.count)
-      (eqb→eq _ _ (and_l (eqb (little (take 8 (name_at i))) p.first) _ two) ∙ k.first)
-      (eqb→eq _ _ (and_r (eqb (little (take 8 (name_at i))) p.first) _ two) ∙ k.second)
-      (eqb→eq _ _ (and_r _ (eqb (little (take 8 (drop 16 (name_at i)))) p.third) three) ∙ k.third)
+  long_is : p.length ≡ length text
+  unfolding packed_of
+  long_is = ap (λ (q : Packed). q.length) k.packed
 
-  -- and the same bytes have them
-  name_words : name_at i ≡ text → has_words i p ≡ true
-  name_words e = rw (e, k.first, k.second, k.third, k.count) (simp itself)
+  module _ (i : ℕ) (h : i < 75) where
+    -- the same words and the same length are the same bytes
+    words_name : (words_of (name_at i) ≡ p.words) × (length (name_at i) ≡ p.length) → name_at i ≡ text
+    unfolding words_of
+    words_name (w, l) =
+        let e : words_of (name_at i) ≡ words_of text = w ∙ words_is in
+        words-one (name_at i) text (name_all i h) k.all (name_short i h) (l ∙ long_is)
+        (ap (λ (ws : List ℕ). get_or ws 0 0) e) (ap (λ (ws : List ℕ). get_or ws 1 0) e) (ap (λ (ws : List ℕ). get_or ws 2 0) e)
 
-  pub words_same : has_words i p ≡ same_places (name_at i) text
-  words_same = go (has_words i p) refl
-    where
-      go : (b : Bool) → has_words i p ≡ b → b ≡ same_places (name_at i) text
-      go true e = same_yes (name_at i) text (words_name (subst T (sym e) tt))
-      go false e = same_no (name_at i) text (λ q. true_false (sym (name_words q) ∙ e))
+    pub words_same : packed_eq.eq (packed_of (name_at i)) p ≡ same_places (name_at i) text
+    unfolding packed_of
+    words_same =
+        same_from_decides (packed_eq.eq (packed_of (name_at i)) p) (same_places (name_at i) text)
+        (Decides-like (packed_eq.eq (packed_of (name_at i)) p) words_name (λ e. (ap words_of e ∙ sym words_is, ap length e ∙ sym long_is))
+        (Decides-and _ _ (bytes_eq-Decides (words_of (name_at i)) p.words) (Decides-eqb (length (name_at i)) p.length)))
+        (same_decides (name_at i) text)
 
 -- ── Places ────────────────────────────────────────────────────────────────────────────────
 
@@ -194,19 +191,29 @@ all_low : T (all_below 256 low)
 unfolding all_below low places placing index_of tabulate text_place place_of little name_at names ops row bytes
 all_low = tt
 
-pub placed_low : (k : ℕ) → k < 256 → get_or places k 0 < 75
+placed_low : (k : ℕ) → k < 256 → get_or places k 0 < 75
 unfolding low
 placed_low k h = ltb→lt (get_or places k 0) 75 (at_each 256 low all_low k h)
+
+-- the code's own
+places_are : PLACES ≡ places
+unfolding places placing index_of tabulate text_place place_of little names ops row bytes
+places_are = refl
+
+pub place_is : (k d : ℕ) → get_or PLACES k d ≡ get_or places k d
+place_is k d = ap (λ (ks : List ℕ). get_or ks k d) places_are
+
+pub place_low : (k : ℕ) → k < 256 → get_or PLACES k 0 < 75
+place_low k h = omega (arith, place_is k 0, placed_low k h)
 
 placed_at : (k i : ℕ) → i < 75 → text_place (name_at i) ≡ k → get_or places k 0 ≡ i
 unfolding right
 placed_at k i h e = ap (λ (n : ℕ). get_or places n 0) (sym e) ∙ eqb→eq (get_or places (text_place (name_at i)) 0) i (at_each 75 right all_right i h)
 
 -- the row at the place of a packed text
-pub placed_only : (text : Bytes) (k : ℕ) (p : Packed) → Packs text p → k ≡ place_of p.first p.second p.third → (r : ℕ) → r ≡ get_or places k 0 →
+pub placed_only : (text : Bytes) (k : ℕ) → k ≡ text_place text → (r : ℕ) → r ≡ get_or places k 0 →
     (i : ℕ) → i < 75 → text_place (name_at i) ≡ text_place text → r ≡ i
-unfolding text_place
-placed_only text k p x e r f i h g = f ∙ placed_at k i h (g ∙ sym (e ∙ rw (x.first, x.second, x.third)))
+placed_only text k e r f i h g = f ∙ placed_at k i h (g ∙ sym e)
 
 -- ── The search over the rows ──────────────────────────────────────────────────────────────
 
@@ -271,6 +278,20 @@ module _ (text : Bytes) where
         (λ j h q.
         let s : name_at r ≡ text = ap name_at (at_row j h q) ∙ q in
         true_false (same_yes (name_at r) text s ∙ sym e))
+
+-- The row of a packed text: the one at its place, where that has the text's words.
+module _ (p : Packed) (text : Bytes) (k : Packs text p) (r : Row) where
+  named : (b : Bool) → b ≡ same_places (name_at r.number) text → ((i : ℕ) → i < 75 → text_place (name_at i) ≡ text_place text → r.number ≡ i)
+      → row_number (then_some b r) ≡ lookup text
+  named true e only = placed_found text r.number r.low only e
+  named false e only = placed_none text r.number r.low only e
+
+  pub row_named : (at : ℕ) → at ≡ place_of (get_or p.words 0 0) (get_or p.words 1 0) (get_or p.words 2 0) → r.number ≡ get_or places at 0
+      → (o : Op) → o ≡ told r.number → row_number (then_some (packed_eq.eq o.name p) r) ≡ lookup text
+  unfolding told text_place words_of
+  row_named at e f o g =
+      named _ (ap (λ (x : Op). packed_eq.eq x.name p) g ∙ words_same p text k r.number r.low)
+      (placed_only text at (e ∙ ap (λ (ws : List ℕ). place_of (get_or ws 0 0) (get_or ws 1 0) (get_or ws 2 0)) (words_is p text k)) r.number f)
 
 -- ── Packing eight bytes from the last on ──────────────────────────────────────────────────
 

@@ -1,74 +1,69 @@
--- What the table of the names holds at each row and each place.
-use mathlib.Core.Path.{◌≡◌}
-use mathlib.Core.Bool.{Bool}
-use Prim.Native.Nat.{ℕ, ◌+◌, ◌*◌, ◌<◌}
-use lib.Dec.{T, eqb, ltb, eqb→eq, ltb→lt}
-use lib.ListN.{length, get_or, take, drop}
-use Rattle.definition.specs.Format.{bytes}
-use Rattle.definition.specs.Ops.{ops, row}
+-- What the table says of each row, against the definitions: compared once for all rows.
+use Rattle.std.specs.Prelude.{◌≡◌, refl, Bool, T, ltb, List, [], ◌∷◌, ℕ, zero, suc, ◌*◌, ◌<◌, ◌≤◌, length, get_or, take, drop}
+use Rattle.std.proofs.Common.{ap, ◌∙◌, arith, ltb→lt}
+use native.Mathlib.Nat.{zero-add}
+use Rattle.definition.specs.Ops.{ops, row, make_at}
+use Rattle.definition.specs.Effects.{effect}
 use Rattle.bytecode.specs.Tables.{all_below, at_each}
-use Rattle.bytecode.specs.Lists.{tabulate}
+use Rattle.bytecode.specs.Lists.{tabulate, tabulate-at}
 use Rattle.bytecode.specs.Meaning.{maxima_of}
-use Rattle.bytecode.specs.Names.{names, name_at, little, place_of, text_place, index_of, placing, places, table_row, table_rows, name_table}
+use Rattle.bytecode.specs.Operands.{row_of}
+use Rattle.definition.specs.Format.{Bytes, bytes}
+use Rattle.bytecode.specs.Names.{names, name_at, little, words_of, packed_of, plain_effect, effect_of, effect_at, plain_need, plain_net, three, told}
+use Rattle.bytecode.specs.declared.ops.rows.Op.{Op}
+use Rattle.bytecode.specs.declared.ops.rows.TheConstants.{OPS}
 
--- The words of a row, and the place's row, against the definitions, tested once for all rows and places.
-holds_word : (ℕ → ℕ) → (ℕ → ℕ) → ℕ → Bool
-holds_word at f i = eqb (get_or name_table (at i) 0) (f i)
+all_told : OPS ≡ tabulate 0 75 told
+unfolding tabulate told three packed_of words_of little name_at names maxima_of plain_need plain_net effect_at effect_of plain_effect effect ops row make_at bytes
+all_told = refl
 
-word_of : ℕ → ℕ → ℕ
-word_of k i = little (take 8 (drop (8 * k) (name_at i)))
+pub op_is : (d : Op) (i : ℕ) → i < 75 → get_or OPS i d ≡ told i
+op_is d i h = ap (λ (os : List Op). get_or os i d) all_told ∙ tabulate-at 0 75 told d i h ∙ ap told (zero-add i)
 
-all_words : T (all_below 3 (λ k. all_below 75 (holds_word (λ i. i * 7 + k) (word_of k))))
-unfolding all_below holds_word word_of name_table table_rows table_row places placing index_of tabulate text_place place_of little name_at names ops row bytes
-all_words = tt
+-- ── The operands ──────────────────────────────────────────────────────────────────────────
 
-all_long : T (all_below 75 (holds_word (λ i. i * 7 + 3) (λ i. length (name_at i))))
-unfolding all_below holds_word name_table table_rows table_row places placing index_of tabulate text_place place_of little name_at names ops row bytes
-all_long = tt
+pub three_at : (ms : List ℕ) (j : ℕ) → j < 3 → get_or (three ms) j 0 ≡ get_or ms j 0
+unfolding three
+three_at ms zero h = refl
+three_at ms (suc zero) h = refl
+three_at ms (suc (suc zero)) h = refl
+three_at ms (suc (suc (suc j))) h = absurd (omega arith)
 
-all_placed : T (all_below 256 (holds_word (λ k. 525 + k) (λ k. get_or places k 0)))
-unfolding all_below holds_word name_table table_rows table_row places placing index_of tabulate text_place place_of little name_at names ops row bytes
-all_placed = tt
+pub three_all : (ms : List ℕ) → length ms ≤ 3 → take (length ms) (three ms) ≡ ms
+unfolding three
+three_all [] h = refl
+three_all (m ∷ []) h = refl
+three_all (m ∷ n ∷ []) h = refl
+three_all (m ∷ n ∷ o ∷ []) h = refl
+three_all (m ∷ n ∷ o ∷ p ∷ ms) h = absurd (omega arith)
 
-largest : ℕ → ℕ → ℕ
-largest j i = get_or (maxima_of i) j 0
+pub three_long : (ms : List ℕ) → length (three ms) ≡ 3
+unfolding three
+three_long ms = refl
 
-all_largest : T (all_below 3 (λ j. all_below 75 (holds_word (λ i. i * 7 + 4 + j) (largest j))))
-unfolding all_below holds_word largest maxima_of name_table table_rows table_row places placing index_of tabulate text_place place_of little name_at names ops row bytes
-all_largest = tt
+pub maxima_few : (i : ℕ) → i < 75 → length (maxima_of i) ≤ 3
+unfolding maxima_of
+maxima_few i h = let q = row_of i h in omega (arith, ap length q.maxima, q.short)
 
 -- no operand has more than 32 bits
 has_32_bits : ℕ → ℕ → Bool
-has_32_bits j i = ltb (largest j i) 4294967296
+has_32_bits j i = ltb (get_or (maxima_of i) j 0) 4294967296
 
 all_small : T (all_below 3 (λ j. all_below 75 (has_32_bits j)))
-unfolding all_below has_32_bits largest maxima_of ops row
+unfolding all_below has_32_bits maxima_of ops row
 all_small = tt
 
-held : (n : ℕ) (at f : ℕ → ℕ) → T (all_below n (holds_word at f)) → (i : ℕ) → i < n → get_or name_table (at i) 0 ≡ f i
-unfolding holds_word
-held n at f a i h = eqb→eq (get_or name_table (at i) 0) (f i) (at_each n (holds_word at f) a i h)
-
-pub word_held : (i k : ℕ) → i < 75 → k < 3 → get_or name_table (i * 7 + k) 0 ≡ little (take 8 (drop (8 * k) (name_at i)))
-unfolding word_of
-word_held i k h l =
-    held 75 (λ i. i * 7 + k) (word_of k)
-    (at_each 3 (λ k. all_below 75 (holds_word (λ i. i * 7 + k) (word_of k))) all_words k l) i h
-
-pub length_held : (i : ℕ) → i < 75 → get_or name_table (i * 7 + 3) 0 ≡ length (name_at i)
-length_held i h = held 75 (λ i. i * 7 + 3) (λ i. length (name_at i)) all_long i h
-
-pub place_held : (k : ℕ) → k < 256 → get_or name_table (525 + k) 0 ≡ get_or places k 0
-place_held k h = held 256 (λ k. 525 + k) (λ k. get_or places k 0) all_placed k h
-
-pub largest_held : (i j : ℕ) → i < 75 → j < 3 → get_or name_table (i * 7 + 4 + j) 0 ≡ get_or (maxima_of i) j 0
-unfolding largest
-largest_held i j h l =
-    held 75 (λ i. i * 7 + 4 + j) (largest j)
-    (at_each 3 (λ j. all_below 75 (holds_word (λ i. i * 7 + 4 + j) (largest j))) all_largest j l) i h
-
 pub largest_small : (i j : ℕ) → i < 75 → j < 3 → get_or (maxima_of i) j 0 < 4294967296
-unfolding has_32_bits largest
+unfolding has_32_bits
 largest_small i j h l =
     ltb→lt (get_or (maxima_of i) j 0) 4294967296
     (at_each 75 (has_32_bits j) (at_each 3 (λ j. all_below 75 (has_32_bits j)) all_small j l) i h)
+
+-- ── The words of a name ───────────────────────────────────────────────────────────────────
+
+pub word_at : (text : Bytes) (k : ℕ) → k < 3 → get_or (words_of text) k 0 ≡ little (take 8 (drop (8 * k) text))
+unfolding words_of
+word_at text zero h = refl
+word_at text (suc zero) h = refl
+word_at text (suc (suc zero)) h = refl
+word_at text (suc (suc (suc k))) h = absurd (omega arith)

@@ -1,5 +1,6 @@
 -- Numbers that are cut to a maximum, lists that are read off a function of a place, and the code's options.
-use Rattle.std.specs.Prelude.{◌≡◌, refl, List, [], ◌∷◌, map, ℕ, zero, suc, ◌+◌, ◌≤◌, ◌<◌, min, length, get_or, Option as CodeOption, Some, None}
+use Rattle.std.specs.Prelude.{◌≡◌, refl, List, [], ◌∷◌, map, ℕ, zero, suc, ◌+◌, ◌≤◌, ◌<◌, min, length, get_or, Option as CodeOption, Some, None, Ok, Err}
+use Rattle.std.specs.Option.{ok_or}
 use Rattle.std.proofs.Common.{sym, ap, ◌∙◌, arith, add-zero, add-suc, suc-add}
 use Rattle.std.proofs.Math.Option.{Option, none, some}
 use Rattle.std.proofs.Math.ListN.{get_elem?}
@@ -10,6 +11,22 @@ use Rattle.std.proofs.Math.ListN.{get_elem?}
 abbrev pub maybe : {A : Type 0} → CodeOption A → Option A
 maybe None = none
 maybe (Some x) = some x
+
+-- a value that has to be there, by what stands for one that is not
+module _ {A E : Type 0} (o : CodeOption A) (e : E) where
+  pub ok_had : (x : A) → Ok x ≡ ok_or o e → o ≡ Some x
+  ok_had x q = go o q
+    where
+      go : (p : CodeOption A) → Ok x ≡ ok_or p e → p ≡ Some x
+      go None r = absurd (let z : ◌≡◌ {A = ℕ} 0 1 = cc in omega arith)
+      go (Some y) r = cc
+
+  pub err_lacked : (f : E) → Err f ≡ ok_or o e → (o ≡ None) × (f ≡ e)
+  err_lacked f q = go o q
+    where
+      go : (p : CodeOption A) → Err f ≡ ok_or p e → (p ≡ None) × (f ≡ e)
+      go None r = (refl, cc)
+      go (Some y) r = absurd (let z : ◌≡◌ {A = ℕ} 0 1 = cc in omega arith)
 
 -- ── Numbers up to a maximum ───────────────────────────────────────────────────────────────
 

@@ -1,5 +1,5 @@
 -- The op names: as bytes, packed into words, and looked up.
-use Rattle.std.specs.Prelude.{◌≡◌, Bool, true, false, ◌&&◌, List, [], ◌∷◌, ◌++◌, map, ℕ, suc, ◌+◌, ◌*◌, ◌%◌, ◌<◌, length, get_or, take, drop, eqb, ℤ, pos, ◌-ℤ◌, ◌+ℤ◌}
+use Rattle.std.specs.Prelude.{◌≡◌, true, false, List, [], ◌∷◌, map, ℕ, suc, ◌+◌, ◌*◌, ◌%◌, ◌<◌, length, get_or, take, drop, eqb, ℤ, pos, ◌-ℤ◌, ◌+ℤ◌, Option as CodeOption, Some, None}
 use Rattle.std.proofs.Math.Option.{Option, none, some}
 use Rattle.bytecode.specs.Lists.{tabulate}
 use Rattle.std.proofs.Math.IntN.{ -ℤ-+ℤ_cancel}
@@ -8,7 +8,10 @@ use Rattle.definition.specs.Format.{Bytes, bytes}
 use Rattle.definition.specs.Instructions.{Instr, plain, shaped, jump, PopN, SetLocal, Call, NewFlat, NewBoxed, GetFlat, GetBoxed, GetIndex}
 use Rattle.definition.specs.Ops.{Row as OpRow, ops, make_at}
 use Rattle.definition.specs.Effects.{effect}
+use Rattle.bytecode.specs.Meaning.{maxima_of}
 use Rattle.bytecode.specs.declared.ops.Packed.{Packed}
+use Rattle.bytecode.specs.declared.ops.row.Row.{Row}
+use Rattle.bytecode.specs.declared.ops.rows.Op.{Op}
 
 abbrev pub name_bytes : OpRow → Bytes
 name_bytes r = bytes r.name
@@ -39,20 +42,17 @@ AllBytes [] = Unit {0}
 AllBytes (b ∷ bs) = (b < 256) × AllBytes bs
 
 -- the words of a text of at most 24 bytes
+unfoldable pub words_of : Bytes → List ℕ
+words_of text = little (take 8 text) ∷ little (take 8 (drop 8 text)) ∷ little (take 8 (drop 16 text)) ∷ []
+
+-- and with them its length
+unfoldable pub packed_of : Bytes → Packed
+packed_of text = record { words = words_of text; length = length text }
+
+-- what a text packs to
 pub record Packs (text : Bytes) (p : Packed) : Type 0 where
   pub all : AllBytes text
-  pub first : p.first ≡ little (take 8 text)
-  pub second : p.second ≡ little (take 8 (drop 8 text))
-  pub third : p.third ≡ little (take 8 (drop 16 text))
-  pub count : p.length ≡ length text
-
--- whether the name of a row has the words and the length of a packed text
-abbrev pub has_words : ℕ → Packed → Bool
-has_words i p =
-    eqb (little (take 8 (name_at i))) p.first
-    && eqb (little (take 8 (drop 8 (name_at i)))) p.second
-    && eqb (little (take 8 (drop 16 (name_at i)))) p.third
-    && eqb (length (name_at i)) p.length
+  pub packed : p ≡ packed_of text
 
 -- Where a name has its row: a number below 256 from its words, by which no two names are alike.
 unfoldable pub place_of : ℕ → ℕ → ℕ → ℕ
@@ -71,25 +71,6 @@ placing ns = tabulate 0 256 (λ k. index_of 0 k ns)
 
 unfoldable pub places : List ℕ
 places = placing (map text_place names)
-
--- The table of the names: for each row the name in three words, its length and the largest numbers of its operands; then the places.
-unfoldable pub table_row : OpRow → List ℕ
-table_row r =
-    little (take 8 (name_bytes r))
-    ∷ little (take 8 (drop 8 (name_bytes r)))
-    ∷ little (take 8 (drop 16 (name_bytes r)))
-    ∷ length (name_bytes r)
-    ∷ get_or r.maxima 0 0
-    ∷ get_or r.maxima 1 0
-    ∷ get_or r.maxima 2 0
-    ∷ []
-
-unfoldable pub table_rows : List OpRow → List ℕ
-table_rows [] = []
-table_rows (r ∷ rs) = table_row r ++ table_rows rs
-
-unfoldable pub name_table : List ℕ
-name_table = table_rows ops ++ places
 
 -- ── Plain names ───────────────────────────────────────────────────────────────────────────
 
@@ -123,3 +104,25 @@ plain_net c = pos (effect_at c).1 -ℤ pos (effect_at c).0
 pub balanced : (c : ℕ) → plain_net c +ℤ pos (plain_need c) ≡ pos (effect_at c).1
 unfolding plain_net plain_need
 balanced c = -ℤ-+ℤ_cancel (pos (effect_at c).1) (pos (effect_at c).0)
+
+-- ── The table ─────────────────────────────────────────────────────────────────────────────
+
+-- the largest numbers of three operands, 0 for those that there are not
+unfoldable pub three : List ℕ → List ℕ
+three ms = get_or ms 0 0 ∷ get_or ms 1 0 ∷ get_or ms 2 0 ∷ []
+
+-- what the table says of a row
+unfoldable pub told : ℕ → Op
+told i =
+    record {
+      name = packed_of (name_at i);
+      maxima = three (maxima_of i);
+      operands = length (maxima_of i);
+      need = plain_need i;
+      net = plain_net i;
+    }
+
+-- the number of a row, where there is one
+abbrev pub row_number : CodeOption Row → Option ℕ
+row_number None = none
+row_number (Some r) = some r.number

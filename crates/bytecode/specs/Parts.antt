@@ -1,8 +1,7 @@
 -- What the code's own types mean.
 use Rattle.std.specs.Prelude.{◌≡◌, true, false, ◌||◌, List, [], ◌∷◌, ℕ, ◌+◌, ◌-◌, ◌≤◌, ◌<◌, leb, ltb, eqb, get_or}
-use Rattle.std.proofs.Math.Option.{none}
 use Rattle.definition.specs.Basics.{choose}
-use Rattle.definition.specs.Shapes.{Shape, unknown, scalar, composite, from_wire}
+use Rattle.definition.specs.Shapes.{Shape, unknown, from_wire}
 use Rattle.definition.specs.Instructions.{Instr as AnyInstr, Chunk}
 use Rattle.definition.specs.Effects.{need, net}
 use Rattle.definition.specs.Ops.{instr}
@@ -15,8 +14,6 @@ use Rattle.bytecode.specs.declared.Span.{Span}
 use Rattle.bytecode.specs.declared.Header.{Header}
 use Rattle.bytecode.specs.declared.SharedEntry.{SharedEntry}
 use Rattle.bytecode.specs.declared.PrivateEntry.{PrivateEntry}
-use Rattle.bytecode.specs.declared.WireShape.{WireShape}
-use Rattle.bytecode.specs.declared.WireShape.TheVariants.{Unknown, Scalar, Composite}
 use Rattle.bytecode.specs.declared.Instr.{Instr}
 use Rattle.bytecode.specs.declared.Effect.{Effect}
 
@@ -49,12 +46,6 @@ shared_of s = record { offset = s.offset; kind = s.kind; len = s.len }
 
 unfoldable pub private_of : PrivateEntry → Private
 private_of s = record { slot = s.slot; offset = s.offset }
-
--- A declared composite's places are unknown.
-unfoldable pub declared_shape : WireShape → Shape
-declared_shape Unknown = unknown
-declared_shape (Scalar k) = scalar k
-declared_shape (Composite k n) = composite k n none
 
 -- The shape that word j of row k of a table says. A native's row has one, as word 1; a signature's has RET as word 1, RESUME as word 2, and the
 -- parameters follow.

@@ -3,7 +3,6 @@
 
 ghost use Rattle.std.specs.Prelude.{◌≡◌, ◌+◌, ◌*◌, ◌-◌, ◌%◌, ◌<◌, ◌≤◌, min, map, length, get_or, pos, ◌-ℤ◌};
 ghost use Rattle.std.proofs.Math.ListN.{get_elem?};
-ghost use Rattle.definition.specs.Format.{bits};
 ghost use Rattle.definition.specs.Basics.{is_member, saturating_add};
 ghost use Rattle.definition.specs.Shapes.{from_wire, known_wire, unknown};
 ghost use Rattle.definition.specs.Module.{no_sig, known_const};
@@ -11,19 +10,24 @@ ghost use Rattle.definition.specs.Effects.{shape_of, returned, returned_native};
 ghost use Rattle.bytecode.specs.Tables.{tables, stride, cap, size, row_at, Appended};
 ghost use Rattle.bytecode.specs.Lists.{maybe};
 ghost use Rattle.bytecode.specs.Meaning.{count as count_of, table_header, slot_at, slot_of, shared_at, private_at, enum_at, word_wire, locals_at, first_at, end_at, known_natives, known_sigs, chunk_of, enum_sizes_of};
-ghost use Rattle.bytecode.specs.Parts.{header_of, WidthsOf, shared_of, private_of, declared_shape, shape_at, LayoutIs, SpanIs, InstrIs, index_pushed, native_pushed, trap_need, EffectIs};
+ghost use Rattle.shapes.specs.Model.{plain_of};
+ghost use Rattle.bytecode.specs.Parts.{header_of, WidthsOf, shared_of, private_of, shape_at, LayoutIs, SpanIs, InstrIs, index_pushed, native_pushed, trap_need, EffectIs};
 
+use ops::Row;
+use shapes::Shape;
 use value_layout::{Widths, scalar};
 
 pub mod code;
 pub mod ops;
+pub mod wire;
 
 // The words of all tables, and the most words of a row.
 pub const SIZE: usize = 22232;
 
 pub const WORDS: usize = 19;
 
-// The tables, in the order in which a listing has their lines. They are numbers, since word k of what the caller in C lends counts table k.
+// The tables, in the order in which a listing has their lines. They are numbers, since word k of what the caller in C lends counts table k, and loops
+// go over ranges of them, which an enum has not.
 pub const HEADER: usize = 0;
 
 pub const SLOTS: usize = 1;
@@ -47,19 +51,22 @@ pub const INSTRUCTIONS: usize = 9;
 pub const TABLES: usize = 10;
 
 // The words of the header's one row.
-const WORD_BYTES: usize = 17;
+const WORD_BYTES: usize = 1;
 
-const FLOAT_BYTES: usize = 18;
+const FLOAT_BYTES: usize = 2;
 
-const ADDRESS_LOG: usize = 19;
+const ADDRESS_LOG: usize = 3;
 
-const SHARED_BYTES: usize = 20;
+const SHARED_BYTES: usize = 4;
 
-const POOL_BYTES: usize = 21;
+const POOL_BYTES: usize = 5;
 
-const INDEX_TRAP: usize = 22;
+pub const INDEX_TRAP: usize = 6;
 
-const HOST_TRAP: usize = 23;
+pub const HOST_TRAP: usize = 7;
+
+// Where that row begins: it is read at each shape, so without a look at the layouts.
+const HEADER_ROW: usize = 16;
 
 // The words of a chunk's row: LOCALS, and the numbers of its first constant and of its first instruction among all.
 pub const LOCALS: usize = 1;
@@ -72,11 +79,11 @@ pub const FIRST_CODE: usize = 3;
 const LAST_CODE: u64 = code::RETURN as u64;
 
 // The largest number of so many bits, as a word.
-const MOST_8: u64 = u8::MAX as u64;
+pub const MOST_8: u64 = u8::MAX as u64;
 
-const MOST_16: u64 = u16::MAX as u64;
+pub const MOST_16: u64 = u16::MAX as u64;
 
-const MOST_32: u64 = u32::MAX as u64;
+pub const MOST_32: u64 = u32::MAX as u64;
 
 // Where a table stands: how many words a row has, how many rows there may be, and where the first is.
 #[derive(Clone, Copy)]
@@ -91,7 +98,7 @@ static LAYOUTS: [Layout; TABLES] = [
     Layout {
         stride: 8,
         cap: 1,
-        base: 16,
+        base: HEADER_ROW,
     },
     Layout {
         stride: 1,
@@ -161,7 +168,7 @@ pub fn word(t: &[u64], i: usize) -> u64
     t.get(i).copied().unwrap_or(0)
 }
 
-// Where row i of table k stands.
+// Where row i of table k stands. k < tables and i < cap k, or the number of a table's rows, are what an index asks, and no more: types of their own would be made at each call.
 #[tactic(auto, using(crate::specs::Tables::row_in, crate::specs::Tables::region_in))]
 pub fn row_place(k: usize, i: usize) -> usize
     requires { (k < tables) × (i < cap k) }
@@ -217,13 +224,13 @@ pub fn header_at(t: &[u64]) -> Header
     ensures { header_of result ≡ table_header t.now }
 {
     Header {
-        word: word(t, WORD_BYTES).min(8) as u8,
-        float: word(t, FLOAT_BYTES).min(8) as u8,
-        address_log: word(t, ADDRESS_LOG).min(6) as u8,
-        shared_bytes: word(t, SHARED_BYTES).min(MOST_32) as u32,
-        pool_bytes: word(t, POOL_BYTES).min(MOST_32) as u32,
-        index_trap: word(t, INDEX_TRAP).min(MOST_16) as u16,
-        host_trap: word(t, HOST_TRAP).min(MOST_16) as u16,
+        word: word(t, HEADER_ROW + WORD_BYTES).min(8) as u8,
+        float: word(t, HEADER_ROW + FLOAT_BYTES).min(8) as u8,
+        address_log: word(t, HEADER_ROW + ADDRESS_LOG).min(6) as u8,
+        shared_bytes: word(t, HEADER_ROW + SHARED_BYTES).min(MOST_32) as u32,
+        pool_bytes: word(t, HEADER_ROW + POOL_BYTES).min(MOST_32) as u32,
+        index_trap: word(t, HEADER_ROW + INDEX_TRAP).min(MOST_16) as u16,
+        host_trap: word(t, HEADER_ROW + HOST_TRAP).min(MOST_16) as u16,
     }
 }
 
@@ -246,12 +253,12 @@ pub fn widths(t: &[u64]) -> Widths
     }
 }
 
-// Bytes of a float alone; 0 where there are none.
+// Bytes of a float alone; 0 where there are none, as F of the first line says it (02, S-1).
 #[tactic(auto, unfolding(crate::specs::Meaning::table_header, crate::specs::Tables::base, crate::specs::Tables::stride))]
 pub fn float_of(t: &[u64]) -> u8
     ensures { result ≡ (table_header t.now).float }
 {
-    word(t, FLOAT_BYTES).min(8) as u8
+    word(t, HEADER_ROW + FLOAT_BYTES).min(8) as u8
 }
 
 // Whether slot i is shared; else it is private.
@@ -308,64 +315,57 @@ pub fn enum_min(t: &[u64], i: usize) -> u32
     cell(t, ENUMS, i, 1).min(MOST_32) as u32
 }
 
-// A declared shape as the walk takes it: a tag that is not known gives unknown.
-#[derive(Clone, Copy)]
-pub enum WireShape {
-    Unknown,
-    Scalar(u8),
-    Composite(u8, u32),
-}
-
-// The shape of a wire word: 2 bits say which, then 8 bits of K, then SIZE. A scalar of a kind that the module lacks is unknown.
-#[tactic(auto, using(crate::proofs::Laws::word_shapes), unfolding(crate::specs::Parts::declared_shape))]
-fn shape_of_word(float: u8, w: u64) -> WireShape
-    ensures { declared_shape result ≡ from_wire (known_wire float (word_wire w)) }
+// The shape of a wire word, as the walk takes it: one of a tag that is not known, or a scalar of a kind that the module lacks, is unknown.
+#[tactic(auto, using(crate::proofs::Laws::word_shapes), unfolding(shapes::specs::Model::shape_of))]
+fn shape_of_word(float: u8, w: u64) -> Shape
+    ensures { plain_of result ≡ from_wire (known_wire float (word_wire w)) }
 {
-    let kind = (w / 4 % 256) as u8;
-    match w % 4 {
-        1 if !value_layout::is_lacking(float, kind) && value_layout::is_scalar_tag(kind) =>
-            WireShape::Scalar(kind),
-        2 if value_layout::is_composite_tag(kind) => WireShape::Composite(
+    let kind = (w / wire::KIND % wire::KINDS) as u8;
+    match w % wire::KIND {
+        wire::SCALAR
+            if !value_layout::is_lacking(float, kind) && value_layout::is_scalar_tag(kind) =>
+            Shape::Scalar(kind),
+        wire::FLAT if value_layout::is_composite_tag(kind) => Shape::Composite(
             kind,
-            (w / 1024).min(MOST_32) as u32,
+            (w / wire::SIZE).min(MOST_32) as u32,
         ),
-        _ => WireShape::Unknown,
+        _ => Shape::Unknown,
     }
 }
 
 // The shape that word j of row k of a table says; unknown where there is no such row.
-#[tactic(auto, using(crate::specs::Meaning::count_low, crate::proofs::Laws::shape_out), unfolding(crate::specs::Parts::declared_shape))]
-fn shape_at(t: &[u64], table: usize, k: usize, j: usize) -> WireShape
+#[tactic(auto, using(crate::specs::Meaning::count_low, crate::proofs::Laws::shape_out), unfolding(shapes::specs::Model::shape_of))]
+fn shape_at(t: &[u64], table: usize, k: usize, j: usize) -> Shape
     requires { (table < tables) × (j < 19) }
-    ensures { declared_shape result ≡ shape_at t.now table k j }
+    ensures { plain_of result ≡ shape_at t.now table k j }
 {
     if k < count(t, table) {
         shape_of_word(float_of(t), cell(t, table, k, j))
     } else {
-        WireShape::Unknown
+        Shape::Unknown
     }
 }
 
 // What native k is declared to return; unknown where there is none.
 #[tactic(auto, using(crate::proofs::Laws::native_is))]
-pub fn native_shape(t: &[u64], k: usize) -> WireShape
-    ensures { declared_shape result ≡ shape_of (returned_native (get_elem? (known_natives t.now) k)) }
+pub fn native_shape(t: &[u64], k: usize) -> Shape
+    ensures { plain_of result ≡ shape_of (returned_native (get_elem? (known_natives t.now) k)) }
 {
     shape_at(t, NATIVES, k, 1)
 }
 
 // What signature k returns; unknown where there is no such signature.
 #[tactic(auto, using(crate::proofs::Laws::return_is))]
-pub fn sig_return(t: &[u64], k: usize) -> WireShape
-    ensures { declared_shape result ≡ shape_of (returned (get_elem? (known_sigs t.now) k)) }
+pub fn sig_return(t: &[u64], k: usize) -> Shape
+    ensures { plain_of result ≡ shape_of (returned (get_elem? (known_sigs t.now) k)) }
 {
     shape_at(t, SIGNATURES, k, 1)
 }
 
 // And what it resumes with.
 #[tactic(auto, using(crate::proofs::Laws::resume_is))]
-pub fn sig_resume(t: &[u64], k: usize) -> WireShape
-    ensures { declared_shape result ≡ from_wire (get_or (known_sigs t.now) k no_sig).resume }
+pub fn sig_resume(t: &[u64], k: usize) -> Shape
+    ensures { plain_of result ≡ from_wire (get_or (known_sigs t.now) k no_sig).resume }
 {
     shape_at(t, SIGNATURES, k, 2)
 }
@@ -383,14 +383,14 @@ pub fn sig_params(t: &[u64], k: usize) -> usize
 }
 
 // Parameter j of signature k; unknown where there is none.
-#[tactic(auto, using(crate::proofs::Laws::param_is, crate::proofs::Laws::param_none), unfolding(crate::specs::Parts::declared_shape))]
-pub fn sig_param(t: &[u64], k: usize, j: usize) -> WireShape
-    ensures { declared_shape result ≡ get_or (map from_wire (get_or (known_sigs t.now) k no_sig).params) j unknown }
+#[tactic(auto, using(crate::proofs::Laws::param_is, crate::proofs::Laws::param_none), unfolding(shapes::specs::Model::shape_of))]
+pub fn sig_param(t: &[u64], k: usize, j: usize) -> Shape
+    ensures { plain_of result ≡ get_or (map from_wire (get_or (known_sigs t.now) k no_sig).params) j unknown }
 {
     if j < sig_params(t, k) {
         shape_at(t, SIGNATURES, k, j + 3)
     } else {
-        WireShape::Unknown
+        Shape::Unknown
     }
 }
 
@@ -398,11 +398,11 @@ pub fn sig_param(t: &[u64], k: usize, j: usize) -> WireShape
 pub fn has_enum_size(t: &[u64], s: u32) -> bool
     ensures { result ≡ is_member s (enum_sizes_of t.now) }
 {
-    let word = word(t, WORD_BYTES).min(8) as u32;
+    let word = word(t, HEADER_ROW + WORD_BYTES).min(8) as u32;
     (0..count(t, ENUMS)).any(|i| s == enum_min(t, i).saturating_add(word))
 }
 
-// LOCALS of chunk k.
+// LOCALS of chunk k. A chunk's number is a plain one, as `0..count` gives it: a type of its own would be made at each call.
 #[tactic(auto, unfolding(crate::specs::Tables::cap, crate::specs::Meaning::locals_at))]
 pub fn locals(t: &[u64], k: usize) -> usize
     requires { k < 64 }
@@ -462,7 +462,7 @@ fn span_of(t: &[u64], part: Part, k: usize) -> Span
     }
 }
 
-// The constants of chunk k among all.
+// The constants of chunk k among all: with the next, two names over one function.
 pub fn constants_of(t: &[u64], k: usize) -> Span
     requires { k < 64 }
     ensures { SpanIs t.now 8 2 k result }
@@ -492,7 +492,7 @@ pub fn instructions_of(t: &[u64], k: usize) -> Span
     )
 }
 
-// K of a constant that is of no scalar's kind.
+// K of a constant that is of no scalar's kind, as a listing says it.
 const OTHER_CONSTANT: u8 = 255;
 
 // K of a constant as the walk takes it: one of a kind that the module lacks counts as any other.
@@ -537,12 +537,14 @@ pub fn instr_at(t: &[u64], i: usize) -> Instr
     ensures { InstrIs t.now i result }
 {
     let code = cell(t, INSTRUCTIONS, i, 0).min(LAST_CODE) as u8;
-    let row = usize::from(code);
+    let row = Row {
+        number: usize::from(code),
+    };
     Instr {
         code,
-        a: cell(t, INSTRUCTIONS, i, 1).min(ops::maximum(row, 0)) as u32,
-        b: cell(t, INSTRUCTIONS, i, 2).min(ops::maximum(row, 1)) as u32,
-        c: cell(t, INSTRUCTIONS, i, 3).min(ops::maximum(row, 2)) as u32,
+        a: cell(t, INSTRUCTIONS, i, 1).min(row.maximum(0)) as u32,
+        b: cell(t, INSTRUCTIONS, i, 2).min(row.maximum(1)) as u32,
+        c: cell(t, INSTRUCTIONS, i, 3).min(row.maximum(2)) as u32,
     }
 }
 

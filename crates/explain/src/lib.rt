@@ -18,6 +18,7 @@ use std::fmt;
 use std::fmt::Write;
 use text_out::Text;
 
+// Word 0 of an acceptance, as C has it.
 const ACCEPTED: u64 = 0;
 
 // As wide as the height and the mark of an instruction.
@@ -29,17 +30,24 @@ pub fn line_of(listing: &[u8], answer: &[u64; 8]) -> usize {
     refused.place.map_or(0, |place| place.number as usize)
 }
 
-fn put_name(text: &mut Text<'_>, number: u64) -> fmt::Result {
-    match NAMES.get(number as usize) {
-        Some(name) => text.write_str(name),
-        None => write!(text, "refusal {number}"),
+// The name that goes with word 0.
+#[derive(Clone, Copy)]
+struct Name(u64);
+
+impl fmt::Display for Name {
+    fn fmt<W: fmt::Write>(&self, f: &mut fmt::Formatter<W>) -> fmt::Result {
+        let Name(number) = *self;
+        match NAMES.get(number as usize) {
+            Some(name) => f.write_str(name),
+            None => write!(f, "refusal {number}"),
+        }
     }
 }
 
 // The name of a refusal, and of acceptance.
 pub fn name_of(number: u64, text: &mut [u8]) -> usize {
     let mut text = Text::new(text);
-    let _ = put_name(&mut text, number);
+    let _ = write!(text, "{}", Name(number));
     text.length()
 }
 
@@ -48,10 +56,7 @@ fn put_refused(text: &mut Text<'_>, listing: &[u8], answer: &[u64; 8]) -> fmt::R
     if let Some(Place { number, line }) = refused.place {
         writeln!(text, "line {number}: {line}")?;
     }
-    put_name(text, answer[0])?;
-    text.write_str(": ")?;
-    refused.put_sentence(text)?;
-    text.write_str("\n")?;
+    writeln!(text, "{}: {refused}", Name(answer[0]))?;
     if let Some(at) = refused.refusal.at() {
         writeln!(text, "{at}")?;
     }
@@ -66,60 +71,62 @@ fn put_marks(text: &mut Text<'_>, height: u8, mark: u8) -> fmt::Result {
     text.write_str(if mark == 0 { "  plain  " } else { "  blind  " })
 }
 
-fn put_lines(text: &mut Text<'_>, listing: &[u8], heights: &[u8], blinds: &[u8]) -> fmt::Result {
-    // Past the end of a sheet there is no height, and no read is blind.
-    let mut heights = heights.iter().copied();
-    let mut blinds = blinds.iter().copied();
-    for (number, bytes) in (1u64..).zip(listing.split_inclusive(lines::is_line_feed)) {
-        let line = Line::new(bytes);
-        write!(text, "{number:7}")?;
-        if line.sort == Sort::Op {
-            put_marks(
-                text,
-                heights.next().unwrap_or(0),
-                blinds.next().unwrap_or(0),
-            )?;
-        } else {
-            text.write_str(NO_MARKS)?;
+// An accepted listing, with its sheets.
+#[derive(Clone, Copy)]
+struct Accepted<'a> {
+    listing: &'a [u8],
+    heights: &'a [u8],
+    blinds: &'a [u8],
+    chunks: u64,
+    instructions: u64,
+}
+
+impl Accepted<'_> {
+    fn put_lines(&self, text: &mut Text<'_>) -> fmt::Result {
+        // Past the end of a sheet there is no height, and no read is blind.
+        let mut heights = self.heights.iter().copied();
+        let mut blinds = self.blinds.iter().copied();
+        for (number, bytes) in (1u64..).zip(self.listing.split_inclusive(lines::is_line_feed)) {
+            let line = Line::new(bytes);
+            write!(text, "{number:7}")?;
+            if line.sort == Sort::Op {
+                put_marks(
+                    text,
+                    heights.next().unwrap_or(0),
+                    blinds.next().unwrap_or(0),
+                )?;
+            } else {
+                text.write_str(NO_MARKS)?;
+            }
+            writeln!(text, "{line}")?;
         }
-        writeln!(text, "{line}")?;
+        Ok(())
     }
-    Ok(())
-}
 
-fn put_blind_reads(text: &mut Text<'_>, blinds: &[u8]) -> fmt::Result {
-    let count = blinds.iter().filter(|mark| **mark != 0).count();
-    if count == 0 {
-        return Ok(());
+    fn put_blind_reads(&self, text: &mut Text<'_>) -> fmt::Result {
+        let count = self.blinds.iter().filter(|mark| **mark != 0).count();
+        if count == 0 {
+            return Ok(());
+        }
+        let reads = Counted(count as u64, "blind read");
+        writeln!(
+            text,
+            "{reads}: the shape of what is read is not known there, so the check says nothing of it"
+        )
     }
-    let reads = Counted(count as u64, "blind read");
-    writeln!(
-        text,
-        "{reads}: the shape of what is read is not known there, so the check says nothing of it"
-    )
-}
 
-fn put_accepted(
-    text: &mut Text<'_>,
-    listing: &[u8],
-    heights: &[u8],
-    blinds: &[u8],
-    answer: &[u64; 8],
-) -> fmt::Result {
-    let [_, chunks, instructions, ..] = *answer;
-    let instructions = Counted(instructions, "instruction");
-    writeln!(
-        text,
-        "accepted: {}, {instructions}",
-        Counted(chunks, "chunk")
-    )?;
-    put_blind_reads(text, blinds)?;
-    text.write_str("   line  height  mark   listing\n")?;
-    put_lines(text, listing, heights, blinds)
+    fn put(&self, text: &mut Text<'_>) -> fmt::Result {
+        let chunks = Counted(self.chunks, "chunk");
+        let instructions = Counted(self.instructions, "instruction");
+        writeln!(text, "accepted: {chunks}, {instructions}")?;
+        self.put_blind_reads(text)?;
+        text.write_str("   line  height  mark   listing\n")?;
+        self.put_lines(text)
+    }
 }
 
 // Of a refusal: the line at fault, the refusal's name, and a sentence. Of an acceptance: the listing, with the height and the mark of each
-// instruction beside it.
+// instruction beside it. The sheets stand one by one, as C lends them.
 pub fn explain(
     listing: &[u8],
     heights: &[u8],
@@ -128,10 +135,16 @@ pub fn explain(
     text: &mut [u8],
 ) -> usize {
     let mut text = Text::new(text);
-    let _ = if answer[0] == ACCEPTED {
-        put_accepted(&mut text, listing, heights, blinds, answer)
-    } else {
-        put_refused(&mut text, listing, answer)
+    let _ = match *answer {
+        [ACCEPTED, chunks, instructions, ..] => Accepted {
+            listing,
+            heights,
+            blinds,
+            chunks,
+            instructions,
+        }
+        .put(&mut text),
+        _ => put_refused(&mut text, listing, answer),
     };
     text.length()
 }

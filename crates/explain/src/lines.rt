@@ -20,7 +20,8 @@ pub enum Sort {
 
 pub const SORTS: usize = Sort::Other as usize + 1;
 
-// How the lines of each sort begin.
+// How the lines of each sort begin. Said again here, as the numbers below: explain promises that it is safe alone and stands on text_out, so that no change
+// of the check proves it again; and listing's texts have no space behind them, and none for an op.
 const FORMS: [(&[u8], Sort); 10] = [
     (b"(slot shared)", Sort::SlotShared),
     (b"(slot private)", Sort::SlotPrivate),

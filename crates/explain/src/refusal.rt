@@ -1,5 +1,5 @@
 // What the words of a refusal say, which C gives: their order and numbers are those of include/stagecheck.h. They may be any words: what no
-// check gives is Unknown.
+// check gives is Unknown. No twins of answer's enums: any words come here, and each case has what its sentence says.
 use crate::find::{At, Wanted};
 use crate::lines::Sort;
 

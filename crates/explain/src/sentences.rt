@@ -1,4 +1,4 @@
-// What a refusal says after its name.
+// What a refusal says after its name: one sentence.
 use crate::counted::Counted;
 use crate::find::{Place, find};
 use crate::floats;
@@ -7,7 +7,6 @@ use crate::refusal::{
 };
 use std::fmt;
 use std::fmt::Write;
-use text_out::Text;
 
 fn bytes(count: u64) -> Counted {
     Counted(count, "byte")
@@ -147,72 +146,78 @@ impl<'a> Refused<'a> {
         }
     }
 
-    fn put_cannot_follow(&self, text: &mut Text<'_>, before: u64) -> fmt::Result {
+    fn put_cannot_follow<W: fmt::Write>(
+        &self,
+        f: &mut fmt::Formatter<W>,
+        before: u64,
+    ) -> fmt::Result {
         let lines_before = Counted(before, "line");
         let Some(Place { line, .. }) = self.place else {
             return write!(
-                text,
+                f,
                 "the listing ends after {lines_before}, before the `)` that closes the module"
             );
         };
         if !line.is_printable() {
-            text.write_str(
+            f.write_str(
                 "a byte of this line, shown as `?`, may not stand in a listing; a line ends with a line feed alone",
             )
         } else if !line.bytes.ends_with(b"\n") {
-            text.write_str(
+            f.write_str(
                 "the listing ends within this line, and each line has to end with a line feed",
             )
         } else if before == 0 {
-            text.write_str(
-                "the first line has to be `(module W F A S P I H`, with numbers that fit",
-            )
+            f.write_str("the first line has to be `(module W F A S P I H`, with numbers that fit")
         } else if floats::is_op(self.listing, line.bytes) {
-            text.write_str("no op may name kind 5, the float, where the first line says F 0")
+            f.write_str("no op may name kind 5, the float, where the first line says F 0")
         } else {
             write!(
-                text,
+                f,
                 "this line cannot follow the {lines_before} before it: its form, a number in it or its place is wrong"
             )
         }
     }
 
-    fn put_overfull(&self, text: &mut Text<'_>) -> fmt::Result {
+    fn put_overfull<W: fmt::Write>(&self, f: &mut fmt::Formatter<W>) -> fmt::Result {
         if self
             .place
             .is_some_and(|place| place.line.has_parameters_over())
         {
-            return text.write_str("a signature has at most 16 parameters");
+            return f.write_str("a signature has at most 16 parameters");
         }
         match self.place.and_then(|place| place.line.sort.room()) {
             Some(room) => write!(
-                text,
+                f,
                 "a listing has at most {room} lines that begin with this word"
             ),
-            None => text.write_str("a listing has too many lines of one form"),
+            None => f.write_str("a listing has too many lines of one form"),
         }
     }
 
-    fn put_limit(&self, text: &mut Text<'_>, limit: Limit) -> fmt::Result {
+    fn put_limit<W: fmt::Write>(&self, f: &mut fmt::Formatter<W>, limit: Limit) -> fmt::Result {
         match limit {
-            Limit::Bytes => text.write_str("the listing has more than 65,536 bytes"),
-            Limit::Table => self.put_overfull(text),
-            Limit::Locals => text.write_str("a chunk has at most 32 locals"),
-            Limit::Blocks(_) => text.write_str(
+            Limit::Bytes => f.write_str("the listing has more than 65,536 bytes"),
+            Limit::Table => self.put_overfull(f),
+            Limit::Locals => f.write_str("a chunk has at most 32 locals"),
+            Limit::Blocks(_) => f.write_str(
                 "this opens a ninth block, and at most 8 may be open at once",
             ),
-            Limit::Operands(_) => text.write_str(
+            Limit::Operands(_) => f.write_str(
                 "after this instruction there are more than 64 operands",
             ),
-            Limit::TextPlaces(_) => text.write_str(
+            Limit::TextPlaces(_) => f.write_str(
                 "the new composite has texts at more than 16 places",
             ),
-            Limit::Unknown(limit) => write!(text, "this check knows no limit {limit}"),
+            Limit::Unknown(limit) => write!(f, "this check knows no limit {limit}"),
         }
     }
 
     // Where the entry ends in time its kind is at fault. Of an entry that is not there the listing's begin is looked at.
-    fn put_shared_entry(&self, text: &mut Text<'_>, span: Span) -> fmt::Result {
+    fn put_shared_entry<W: fmt::Write>(
+        &self,
+        f: &mut fmt::Formatter<W>,
+        span: Span,
+    ) -> fmt::Result {
         let Span {
             offset,
             size,
@@ -220,47 +225,49 @@ impl<'a> Refused<'a> {
         } = span;
         let entry = self.place.map_or(self.listing, |place| place.line.bytes);
         if floats::is_entry(self.listing, entry) {
-            text.write_str("the KIND of this entry is 5, the float, and the first line says F 0")
+            f.write_str("the KIND of this entry is 5, the float, and the first line says F 0")
         } else if size == 0 && offset <= buffer {
-            text.write_str(
+            f.write_str(
                 "the KIND of this entry is neither that of a scalar nor that of a composite",
             )
         } else {
             let shared = Counted(buffer, "shared byte");
             write!(
-                text,
+                f,
                 "this entry has {} from byte {offset} on, and there are {shared}",
                 bytes(size)
             )
         }
     }
+}
 
-    pub fn put_sentence(&self, text: &mut Text<'_>) -> fmt::Result {
+impl fmt::Display for Refused<'_> {
+    fn fmt<W: fmt::Write>(&self, f: &mut fmt::Formatter<W>) -> fmt::Result {
         match self.refusal {
-            Refusal::CannotFollow(before) => self.put_cannot_follow(text, before),
-            Refusal::LimitPassed(limit) => self.put_limit(text, limit),
-            Refusal::NotNested(_) => text.write_str(
+            Refusal::CannotFollow(before) => self.put_cannot_follow(f, before),
+            Refusal::LimitPassed(limit) => self.put_limit(f, limit),
+            Refusal::NotNested(_) => f.write_str(
                 "this instruction does not fit the blocks around it: its place or its target is wrong",
             ),
             Refusal::SheetTooShort(count, length) => {
                 let instructions = Counted(count, "instruction");
                 write!(
-                    text,
+                    f,
                     "each of {instructions} needs an entry in both sheets, and the shorter sheet has {length}"
                 )
             }
-            Refusal::Height(_, fault) => write!(text, "{fault}"),
-            Refusal::Read(_, fault) => write!(text, "{fault}"),
-            Refusal::Shape(_, fault) => write!(text, "{fault}"),
-            Refusal::SharedSlotOutOfBounds(_, span) => self.put_shared_entry(text, span),
-            Refusal::PrivateCompositeLayoutInvalid(_, reason) => write!(text, "{reason}"),
-            Refusal::SharedLayoutCountMismatch(reason) => write!(text, "{reason}"),
+            Refusal::Height(_, fault) => write!(f, "{fault}"),
+            Refusal::Read(_, fault) => write!(f, "{fault}"),
+            Refusal::Shape(_, fault) => write!(f, "{fault}"),
+            Refusal::SharedSlotOutOfBounds(_, span) => self.put_shared_entry(f, span),
+            Refusal::PrivateCompositeLayoutInvalid(_, reason) => write!(f, "{reason}"),
+            Refusal::SharedLayoutCountMismatch(reason) => write!(f, "{reason}"),
             Refusal::BufferTooShort(needed) => write!(
-                text,
+                f,
                 "the buffer is shorter than the listing, which needs {}",
                 bytes(needed)
             ),
-            Refusal::Unknown => text.write_str("this check knows no such refusal"),
+            Refusal::Unknown => f.write_str("this check knows no such refusal"),
         }
     }
 }

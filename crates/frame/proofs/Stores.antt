@@ -14,7 +14,7 @@ use Rattle.shapes.specs.Tabulated.{down, up}
 use Rattle.shapes.specs.Model.{shape_of}
 use Rattle.frame.specs.Words.{slot_of, shape_in, count_in}
 use Rattle.frame.specs.Model.{valued, value_at, state_of, stack_of, locals_of, popped, replaced, with_local}
-use Rattle.frame.specs.Slots.{Written, Changed}
+use Rattle.frame.specs.Slots.{Written, Changed, SameOperands}
 use Rattle.shapes.proofs.Lists.{lt_or_ge, down-at, down-past, down-same, down-drop, down-filled, up_same, up-set, up-length, up-replicate}
 
 -- ── Slots that change one after another ───────────────────────────────────────────────────
@@ -36,6 +36,18 @@ pub change_done : (s r : State) (lo i hi : ℕ) (f : ℕ → AnyShape) → i ≡
 change_done s r lo i hi f e k = subst (λ (z : ℕ). Changed s lo z f r) e k
 
 pub ruleset changes = (change_none, change_more, change_done)
+
+-- what is written among the locals leaves the operands
+pub written_above : (s r : State) (i : ℕ) (v : AnyShape) → Written s (64 + i) v r → SameOperands s r
+written_above s r i v w j h = w.there j (λ e. omega arith)
+
+pub changed_above : (s r : State) (hi : ℕ) (f : ℕ → AnyShape) → Changed s 64 hi f r → SameOperands s r
+changed_above s r hi f c j h = c.there j (λ l u. omega arith)
+
+pub nothing_written : (s : State) → SameOperands s s
+nothing_written s j h = refl
+
+pub ruleset operands = (written_above, changed_above, nothing_written)
 
 -- ── Steps on the definition's states ──────────────────────────────────────────────────────
 

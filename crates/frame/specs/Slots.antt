@@ -15,3 +15,7 @@ pub record Changed (s : State) (lo hi : ℕ) (f : ℕ → AnyShape) (r : State) 
   pub height : r.height ≡ s.height
   pub here : (j : ℕ) → lo ≤ j → j < hi → value_at r j ≡ f j
   pub there : (j : ℕ) → (lo ≤ j → j < hi → ⊥) → value_at r j ≡ value_at s j
+
+-- r has what s has in each slot that an operand may stand in, whatever the height
+abbrev pub SameOperands : State → State → Type 0
+SameOperands s r = (j : ℕ) → j < 64 → value_at r j ≡ value_at s j

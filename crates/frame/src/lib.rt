@@ -1,7 +1,7 @@
 // The state of the walk: the shape of each operand and local in a word, with its text places beside it. It is lent, and the methods here change it in place.
 #![tactic(auto)]
 
-ghost use Rattle.std.specs.Prelude.{◌≡◌, ◌==◌, ◌&&◌, true, List, reverse, ℕ, ◌+◌, ◌-◌, ◌≤◌, ◌<◌, [], length, take, get_or, replicate};
+ghost use Rattle.std.specs.Prelude.{◌≡◌, ◌==◌, ◌&&◌, true, reverse, ℕ, ◌+◌, ◌-◌, ◌≤◌, ◌<◌, [], take, get_or, replicate};
 ghost use Rattle.definition.specs.Shapes.{unknown, same_shape, same_shapes, join};
 ghost use Rattle.definition.specs.Walk.{join_states};
 ghost use Rattle.definition.specs.Instructions.{Chunk};
@@ -11,7 +11,7 @@ ghost use Rattle.shapes.specs.Model.{value_of};
 ghost use Rattle.shapes.specs.Cover.{covers, covers_all, covers_state};
 ghost use Rattle.shapes.specs.Text.{packed_of, Means};
 ghost use Rattle.frame.specs.Words.{slot_of};
-ghost use Rattle.frame.specs.declared.TheConstants.{OPERANDS};
+ghost use Rattle.frame.specs.declared.TheConstants.{OPERANDS, LOCALS};
 
 mod slot;
 
@@ -28,8 +28,22 @@ const SLOTS: usize = OPERANDS + LOCALS;
 
 const PLACES: usize = SLOTS * MOST_PLACES;
 
+// How many locals a chunk has, of those that there is room for.
+#[derive(Clone, Copy)]
+pub struct Locals {
+    pub count: usize,
+    ghost few: { count ≤ LOCALS },
+}
+
+// How many operands there were where the loop around was entered: what is walked in it may not reach below. A floor of 0 tests nothing, as in the Rust (docs/DECISIONS.md 13).
+#[derive(Clone, Copy)]
+pub struct Floor {
+    pub height: usize,
+    ghost low: { height ≤ OPERANDS },
+}
+
 // Of each operand and then of each local a word, and its text places in an array beside the words: two words are compared at once, a state is copied only as far as it is in use, and the flat
-// array of offsets is a form that the check is asked for. What lies above the height, or past a count of places, means nothing.
+// array of offsets is a form that the check is asked for. What lies above the height, or past a count of places, means nothing. i < SLOTS and hi ≤ SLOTS are what an index and a range ask, and no more.
 #[derive(Clone, Copy)]
 pub struct State {
     pub height: usize,
@@ -136,7 +150,8 @@ impl State {
         word == other.slots[i] && Slot::from(word).counted() == 0
     }
 
-    // Whether slot i is that of another state.
+    // Whether slot i is that of another state. This and `covers_at` stay two, and not one that is given the test: its contract would ask what the test says, as at `fill`. So do
+    // `same_stack` and `covers_stack`.
     #[tactic(auto, using(crate::proofs::Joins::same_equal))]
     fn same_at(&self, other: &State, i: usize) -> bool
         requires { i < SLOTS }
@@ -179,22 +194,20 @@ impl State {
     }
 
     // Whether a join with another state's locals would leave these as they are.
-    pub fn covers_locals(&self, other: &State, locals: usize) -> bool
-        requires { locals ≤ LOCALS }
-        ensures { result ≡ covers_all (locals_of locals self.now) (locals_of locals other.now) }
+    pub fn covers_locals(&self, other: &State, locals: Locals) -> bool
+        ensures { result ≡ covers_all (locals_of locals.count self.now) (locals_of locals.count other.now) }
     {
-        (OPERANDS..OPERANDS + locals).all(|i| self.covers_at(other, i))
+        (OPERANDS..OPERANDS + locals.count).all(|i| self.covers_at(other, i))
     }
 
     // ---- whole states by value
 
     // The join of two states of one height.
-    pub fn join(self, other: State, locals: usize) -> State
+    pub fn join(self, other: State, locals: Locals) -> State
         requires low { self.height ≤ OPERANDS }
         requires one_height { self.height ≡ other.height }
-        requires locals { locals ≤ LOCALS }
         ensures height { result.height ≡ self.height }
-        ensures state { state_of locals result ≡ join_states (state_of locals self) (state_of locals other) }
+        ensures state { state_of locals.count result ≡ join_states (state_of locals.count self) (state_of locals.count other) }
     {
         let mut joined = Frame { state: self };
         joined.join_with(&Frame { state: other }, locals);
@@ -203,10 +216,9 @@ impl State {
 
     // Whether a join with another state, of any height, would leave this one as it is.
     #[tactic(auto, using(crate::proofs::Joins::state_covers))]
-    pub fn covers(self, other: State, locals: usize) -> bool
+    pub fn covers(self, other: State, locals: Locals) -> bool
         requires low { self.height ≤ OPERANDS }
-        requires locals { locals ≤ LOCALS }
-        ensures { result ≡ covers_state (state_of locals self) (state_of locals other) }
+        ensures { result ≡ covers_state (state_of locals.count self) (state_of locals.count other) }
     {
         let frame = Frame { state: self };
         frame.covers_stack(&other) && frame.state.covers_locals(&other, locals)
@@ -222,6 +234,7 @@ pub struct Frame {
 
 impl Frame {
     ghost use Rattle.frame.specs.Model.{stack_of, state_of, popped, replaced, with_local, widened};
+    ghost use Rattle.frame.specs.Slots.{SameOperands};
 
     // No operands, and every local unknown.
     pub fn new() -> Frame
@@ -278,13 +291,13 @@ impl Frame {
     // ---- locals
 
     // A local past the last is not written.
-    #[tactic(auto, using(crate::proofs::Stores::locals))]
-    pub fn set_local(&mut self, i: usize, v: Value, locals: usize)
-        requires { locals ≤ LOCALS }
+    #[tactic(auto, using(crate::proofs::Stores::locals, crate::proofs::Stores::operands))]
+    pub fn set_local(&mut self, i: usize, v: Value, locals: Locals)
         ensures height { self.new.state.height ≡ self.old.state.height }
-        ensures state { state_of locals self.new.state ≡ with_local i (value_of v) (state_of locals self.old.state) }
+        ensures operands { SameOperands self.old.state self.new.state }
+        ensures state { state_of locals.count self.new.state ≡ with_local i (value_of v) (state_of locals.count self.old.state) }
     {
-        if i < locals {
+        if i < locals.count {
             self.state.write(OPERANDS + i, v);
         }
     }
@@ -292,38 +305,37 @@ impl Frame {
     // ---- another frame's state
 
     // The operands and locals become those of another.
-    pub fn copy(&mut self, other: &Frame, locals: usize)
-        requires { locals ≤ LOCALS }
+    pub fn copy(&mut self, other: &Frame, locals: Locals)
         ensures height { self.new.state.height ≡ other.now.state.height }
-        ensures state { state_of locals self.new.state ≡ state_of locals other.now.state }
+        ensures state { state_of locals.count self.new.state ≡ state_of locals.count other.now.state }
     {
         let s = &mut self.state;
         let from = &other.state;
         s.copy_slots(from, 0, from.height);
-        s.copy_slots(from, OPERANDS, OPERANDS + locals);
+        s.copy_slots(from, OPERANDS, OPERANDS + locals.count);
         s.height = from.height;
     }
 
     // The join with another of the same height.
-    pub fn join_with(&mut self, other: &Frame, locals: usize)
-        requires one_height { self.old.state.height ≡ other.now.state.height }
-        requires locals { locals ≤ LOCALS }
+    pub fn join_with(&mut self, other: &Frame, locals: Locals)
+        requires { self.old.state.height ≡ other.now.state.height }
         ensures height { self.new.state.height ≡ self.old.state.height }
-        ensures state { state_of locals self.new.state ≡ join_states (state_of locals self.old.state) (state_of locals other.now.state) }
+        ensures state { state_of locals.count self.new.state ≡ join_states (state_of locals.count self.old.state) (state_of locals.count other.now.state) }
     {
         let s = &mut self.state;
         s.join_slots(&other.state, 0, s.height);
-        s.join_slots(&other.state, OPERANDS, OPERANDS + locals);
+        s.join_slots(&other.state, OPERANDS, OPERANDS + locals.count);
     }
 
     // The operands stay, and each local becomes its join with another state's.
-    #[tactic(auto, using(crate::proofs::Joins::widen_law))]
-    pub fn join_locals(&mut self, other: &State, locals: usize)
-        requires { locals ≤ LOCALS }
+    #[tactic(auto, using(crate::proofs::Joins::widen_law, crate::proofs::Stores::operands))]
+    pub fn join_locals(&mut self, other: &State, locals: Locals)
         ensures height { self.new.state.height ≡ self.old.state.height }
-        ensures state { state_of locals self.new.state ≡ widened (state_of locals self.old.state) (state_of locals other.now) }
+        ensures operands { SameOperands self.old.state self.new.state }
+        ensures state { state_of locals.count self.new.state ≡ widened (state_of locals.count self.old.state) (state_of locals.count other.now) }
     {
-        self.state.join_slots(other, OPERANDS, OPERANDS + locals);
+        self.state
+            .join_slots(other, OPERANDS, OPERANDS + locals.count);
     }
 
     // Whether the operands are those of another state, of any height.
@@ -350,10 +362,9 @@ impl Frame {
         ensures { (c : Chunk) → Wide w c → packed_of result ≡ packed c (take n (stack_of self.now.state)) }
     {
         let s = &self.state;
-        let lo = s.height - n;
         let mut size = 0u32;
-        for i in 0..n {
-            size = size.saturating_add(s.shape_at(lo + i).packed_size(w)?);
+        for i in s.height - n..s.height {
+            size = size.saturating_add(s.shape_at(i).packed_size(w)?);
         }
         Some(size)
     }
@@ -364,12 +375,11 @@ impl Frame {
         ensures { (c : Chunk) → Wide w c → Means result (built_places c 0 (reverse (take n (stack_of self.now.state)))) }
     {
         let s = &self.state;
-        let lo = s.height - n;
         let mut at = 0u32;
         let mut held = Places::new();
         let mut whole = Ok(());
-        for i in 0..n {
-            let v = s.value_at(lo + i);
+        for i in s.height - n..s.height {
+            let v = s.value_at(i);
             let Some(added) = held.add_text(at, v) else {
                 return Ok(None);
             };

@@ -12,14 +12,15 @@ pub struct Slot {
     pub count: Option<u8>,
 }
 
-// Where the parts of a word begin, above two bits that say which shape it is: eight bits of its kind, eight of the count of places, and the size.
+// Where the parts of a word begin, above two bits that say which shape it is: eight bits of its kind, eight of the count of places, and the size. Numbers here and in no other place:
+// 01 asks for an array of shapes beside one of offsets, and a word is one of these shapes; `Slot` is what it says.
 const KIND: u64 = 1 << 2;
 
 const COUNT: u64 = 1 << 10;
 
 const SIZE: u64 = 1 << 18;
 
-// A count that says that the places are not known.
+// A count that says that the places are not known. In the word only: `Slot` has an Option.
 const UNKNOWN_PLACES: u8 = 255;
 
 impl From<Slot> for u64 {

@@ -2,9 +2,9 @@
 // states says how many values the join changes, whether the first state covers the second, and whether the three ways agree.
 #![tactic(auto)]
 
-ghost use Rattle.std.specs.Prelude.{◌≡◌, ℕ, ◌+◌, ◌≤◌, ◌<◌, length};
+ghost use Rattle.std.specs.Prelude.{◌≡◌, ◌+◌, ◌≤◌, ◌<◌, length};
 
-use frame::{Frame, LOCALS, OPERANDS, State};
+use frame::{Frame, LOCALS, Locals, OPERANDS, State};
 use shapes::{Places, Value};
 use std::io;
 use std::ops::Range;
@@ -85,9 +85,8 @@ fn frames(seed: u64, way: Way, heights: (usize, usize)) -> (Frame, Frame)
 // ---- the three ways
 
 // The join as the walk makes it, in place.
-fn join_lent(a: &Frame, b: &Frame, locals: usize) -> State
-    requires one_height { a.now.state.height ≡ b.now.state.height }
-    requires locals { locals ≤ LOCALS }
+fn join_lent(a: &Frame, b: &Frame, locals: Locals) -> State
+    requires { a.now.state.height ≡ b.now.state.height }
 {
     let mut joined = *a;
     joined.join_with(b, locals);
@@ -118,42 +117,42 @@ fn changed_in(a: &State, b: &State, slots: Range<usize>) -> usize
 }
 
 // Whether a state is the join of two value by value.
-fn is_join(a: &Frame, b: &Frame, joined: &State, locals: usize) -> bool
-    requires { locals ≤ LOCALS }
-{
+fn is_join(a: &Frame, b: &Frame, joined: &State, locals: Locals) -> bool {
     is_join_in(&a.state, &b.state, joined, 0..a.state.height)
-        && is_join_in(&a.state, &b.state, joined, OPERANDS..OPERANDS + locals)
+        && is_join_in(
+            &a.state,
+            &b.state,
+            joined,
+            OPERANDS..OPERANDS + locals.count,
+        )
 }
 
 // Whether both joins are the join value by value.
-fn joins_agree(a: &Frame, b: &Frame, locals: usize) -> bool
-    requires one_height { a.now.state.height ≡ b.now.state.height }
-    requires locals { locals ≤ LOCALS }
+fn joins_agree(a: &Frame, b: &Frame, locals: Locals) -> bool
+    requires { a.now.state.height ≡ b.now.state.height }
 {
     is_join(a, b, &a.state.join(b.state, locals), locals)
         && is_join(a, b, &join_lent(a, b, locals), locals)
 }
 
 // Whether both covers are the cover value by value.
-fn covers_agree(a: &Frame, b: &Frame, locals: usize) -> bool
-    requires { locals ≤ LOCALS }
-{
+fn covers_agree(a: &Frame, b: &Frame, locals: Locals) -> bool {
     let (a, b, height) = (&a.state, &b.state, a.state.height);
-    let are_covered = is_covered_in(a, b, OPERANDS..OPERANDS + locals);
+    let are_covered = is_covered_in(a, b, OPERANDS..OPERANDS + locals.count);
     a.covers_locals(b, locals) == are_covered
         && a.covers(*b, locals) == (is_covered_in(a, b, 0..height) && are_covered)
 }
 
 // ---- the cases
 
-fn show(rt: &impl Print, seed: u64, way: Way, height: usize, locals: usize) -> io::Result<()>
-    requires height { height ≤ OPERANDS }
-    requires locals { locals ≤ LOCALS }
+fn show(rt: &impl Print, seed: u64, way: Way, height: usize, locals: Locals) -> io::Result<()>
+    requires { height ≤ OPERANDS }
 {
+    let count = locals.count;
     let (a, b) = frames(seed, way, (height, height));
     let joined = join_lent(&a, &b, locals);
     let operands_changed = changed_in(&a.state, &joined, 0..height);
-    let locals_changed = changed_in(&a.state, &joined, OPERANDS..OPERANDS + locals);
+    let locals_changed = changed_in(&a.state, &joined, OPERANDS..OPERANDS + count);
     let covered = if a.state.covers(b.state, locals) {
         "covered"
     } else {
@@ -170,46 +169,15 @@ fn show(rt: &impl Print, seed: u64, way: Way, height: usize, locals: usize) -> i
         "COVERS DIFFER"
     };
     print!(rt;
-        "operands {height} locals {locals}: changed {operands_changed} and {locals_changed}"
+        "operands {height} locals {count}: changed {operands_changed} and {locals_changed}"
     )?;
     println!(rt; ", {covered}, {joins}, {covers}")
-}
-
-fn way_of(n: u64) -> Way {
-    match n / 16 {
-        0 => Way::Anywhere,
-        1 => Way::Nowhere,
-        2 => Way::InOne,
-        _ => Way::FromUnknown,
-    }
-}
-
-fn height_of(n: u64) -> usize
-    ensures { result ≤ OPERANDS }
-{
-    match n % 4 {
-        0 => 0,
-        1 => 1,
-        2 => 9,
-        _ => OPERANDS,
-    }
-}
-
-fn locals_of(n: u64) -> usize
-    ensures { result ≤ LOCALS }
-{
-    match n / 4 % 4 {
-        0 => 0,
-        1 => 1,
-        2 => 7,
-        _ => LOCALS,
-    }
 }
 
 // States of different heights never cover each other.
 fn show_heights(rt: &impl Print) -> io::Result<()> {
     let (low, high) = frames(1, Way::Nowhere, (2, 3));
-    let covered = if low.state.covers(high.state, 0) {
+    let covered = if low.state.covers(high.state, Locals { count: 0 }) {
         "COVERED"
     } else {
         "not covered"
@@ -218,8 +186,14 @@ fn show_heights(rt: &impl Print) -> io::Result<()> {
 }
 
 fn main(rt: HostRuntime) -> io::Result<()> {
-    for n in 0..64 {
-        show(&rt, n + 1, way_of(n), height_of(n), locals_of(n))?;
+    let mut seed = 0;
+    for way in [Way::Anywhere, Way::Nowhere, Way::InOne, Way::FromUnknown] {
+        for count in [0, 1, 7, LOCALS] {
+            for height in [0, 1, 9, OPERANDS] {
+                seed += 1;
+                show(&rt, seed, way, height, Locals { count })?;
+            }
+        }
     }
     show_heights(&rt)
 }

@@ -9,37 +9,33 @@ use Rattle.theorems.specs.Keys.{key, keys, apart, apart_from, all_apart, starts,
 use Rattle.bytecode.specs.Tables.{all_below, at_each}
 use Rattle.listing.specs.Scan.{Words, scan, codes, form_codes, no_word, then_words, joined}
 use Rattle.listing.specs.Agree.{ascii, joined_nothing, scan_both, text_scan}
-use Rattle.listing.specs.Forms.{Fits, form_number, FormAt, form-at, line_fits, taken, taken_none, taken_more, taken_all}
+use Rattle.listing.specs.Forms.{Fits, form_number, FormAt, form-at, Apart, form-apart, line_fits, taken, taken_none, taken_more, taken_all, head_number}
 use Rattle.listing.specs.declared.form.Form.TheVariants as F
 use Rattle.listing.specs.Stored.{Stored}
 use Rattle.listing.specs.declared.form.Form.{Form}
 use Rattle.listing.specs.declared.entry.Values.{Values}
 use Rattle.listing.specs.declared.entry.Entry.{Entry}
+use Rattle.listing.specs.declared.entry.Head.TheVariants as H
 
 abbrev pub whole_line : List (LineForm Line) → Bytes → Option Line
 whole_line fs s = whole shape_at fs s
 
--- What a form and the values say of the line that the definition reads.
-abbrev pub Formed : Option Line → CodeOption Form → Values → Type 0
-Formed o None v = o ≡ none
-Formed o (Some f) v = (l : Line) × (vs : List ℕ) × (o ≡ some l) × (form_number f < 86) × Fits l (form_number f) vs × Stored v vs
-
--- What an entry says of it.
+-- What an entry says of the line that the definition reads.
 abbrev pub Entered : Option Line → CodeOption Entry → Type 0
 Entered o None = o ≡ none
-Entered o (Some e) = (l : Line) × (vs : List ℕ) × (o ≡ some l) × Fits l (form_number e.form) vs × Stored e.values vs
+Entered o (Some e) = (l : Line) × (vs : List ℕ) × (o ≡ some l) × Fits l (head_number e.head) vs × Stored e.values vs
 
 -- ── A form for a line that is taken whole ─────────────────────────────────────────────────
 
-pub formed_none : (o : Option Line) (q : CodeOption Form) (v : Values) → q ≡ None → o ≡ none → Formed o q v
-formed_none o None v e n = n
-formed_none o (Some f) v e n = absurd (let z : ◌≡◌ {A = ℕ} 0 1 = cc in omega arith)
+pub entered_none : (o : Option Line) (q : CodeOption Entry) → q ≡ None → o ≡ none → Entered o q
+entered_none o None e n = n
+entered_none o (Some r) e n = absurd (let z : ◌≡◌ {A = ℕ} 0 1 = cc in omega arith)
 
-pub formed_then : (o u : Option Line) (q : CodeOption Form) (f : Form) (v : Values) (b d : Bool) → q ≡ then_some b f → b ≡ d → o ≡ u
-    → Formed u (then_some d f) v → Formed o q v
-formed_then o u q f v b d e g h x =
-    subst (λ (y : CodeOption Form). Formed o y v) (ap (λ (k : Bool). then_some k f) (sym g) ∙ sym e)
-    (subst (λ (y : Option Line). Formed y (then_some d f) v) (sym h) x)
+pub entered_then : (o u : Option Line) (q : CodeOption Entry) (r : Entry) (b d : Bool) → q ≡ then_some b r → b ≡ d → o ≡ u
+    → Entered u (then_some d r) → Entered o q
+entered_then o u q r b d e g h x =
+    subst (λ (y : CodeOption Entry). Entered o y) (ap (λ (k : Bool). then_some k r) (sym g) ∙ sym e)
+    (subst (λ (y : Option Line). Entered y (then_some d r)) (sym h) x)
 
 -- ── Lines that are no ops ─────────────────────────────────────────────────────────────────
 
@@ -77,10 +73,13 @@ module _ (s : Bytes) where
 
   module _ (i : ℕ) (h : i < 11) (text : Bytes) (k : text ≡ get_or (keys line_forms) (form_number (get_or lines i F.Module)) []) where
     at : FormAt i i line_forms
-    at = form-at 0 i i line_forms (omega arith) line_fits lines_apart (omega (arith, forms_long))
+    at = form-at 0 i i line_forms (omega arith) line_fits (omega (arith, forms_long))
+
+    alone : Apart i line_forms at.this
+    alone = form-apart i line_forms at.this at.here lines_apart
 
     text_is : text ≡ key at.this.items
-    text_is = k ∙ ap (λ (j : ℕ). get_or (keys line_forms) j []) (number_at i h) ∙ at.keyed
+    text_is = k ∙ ap (λ (j : ℕ). get_or (keys line_forms) j []) (number_at i h) ∙ alone.keyed
 
     pub passed : strip text s ≡ none → left_forms i ≡ left_forms (i + 1)
     unfolding left_forms whole ◌and_then◌
@@ -100,7 +99,7 @@ module _ (s : Bytes) where
       unfolding left_forms taken apart_from keys
       chosen =
           ap (λ (fs : List (LineForm Line)). whole_line fs s) at.here
-          ∙ commit shape_at s rest [] (drop (suc i) line_forms) at.this (sym (ap (λ (x : Bytes). strip x s) text_is) ∙ e) tt at.apart
+          ∙ commit shape_at s rest [] (drop (suc i) line_forms) at.this (sym (ap (λ (x : Bytes). strip x s) text_is) ∙ e) tt alone.apart
 
       scanned : scan (codes at.this.items) s ≡ scan cs rest
       unfolding no_word then_words joined ◌and_then◌
@@ -118,15 +117,18 @@ module _ (s : Bytes) where
 
       module _ (ws : List ℕ) (x : Bytes) (y : scan cs rest ≡ some (ws, x)) where
         module _ (v : Values) (st : Stored v ws) where
-          pub chosen_formed : Formed (left_forms i) (then_some (eqb (length x) 0) (get_or lines i F.Module)) v
-          chosen_formed = go x y
+          abbrev entry : Entry
+          entry = record { head = H.Form (get_or lines i F.Module); values = v }
+
+          pub chosen_entered : Entered (left_forms i) (then_some (eqb (length x) 0) entry)
+          chosen_entered = go x y
             where
-              go : (z : Bytes) → scan cs rest ≡ some (ws, z) → Formed (left_forms i) (then_some (eqb (length z) 0) (get_or lines i F.Module)) v
+              go : (z : Bytes) → scan cs rest ≡ some (ws, z) → Entered (left_forms i) (then_some (eqb (length z) 0) entry)
               go [] q =
                   let t = taken_all s i line_forms at ws (scanned ∙ q) in
-                  (t.0, ws, chosen ∙ t.1, omega (arith, number_at i h), subst (λ (j : ℕ). Fits t.0 j ws) (sym (number_at i h)) t.2, st)
+                  (t.0, ws, chosen ∙ t.1, subst (λ (j : ℕ). Fits t.0 j ws) (sym (number_at i h)) t.2, st)
               go (b ∷ z) q =
-                  formed_then _ _ _ _ v _ false refl (ne_eqb (length (b ∷ z)) 0 (λ e. absurd (omega arith)))
+                  entered_then _ _ _ _ _ false refl (ne_eqb (length (b ∷ z)) 0 (λ e. absurd (omega arith)))
                   (chosen ∙ taken_more s i line_forms at ws b z (scanned ∙ q)) refl
 
-pub ruleset line_laws = (forms_start, passed, forms_end, chosen_none, formed_none)
+pub ruleset line_laws = (forms_start, passed, forms_end, chosen_none, entered_none)

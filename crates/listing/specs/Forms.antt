@@ -14,7 +14,7 @@ use Rattle.std.proofs.Math.ListN.{length, get_elem?, get_or-eq_default}
 use borrow.Author.Tests.{le-leb, ne_eqb}
 use Rattle.definition.specs.Basics.{choose, is_member, unless, first}
 use Rattle.definition.specs.Format.{Bytes, bytes, Form as LineForm, form, parse, shape_at}
-use Rattle.definition.specs.Format.{◌and_then◌, nothing_after, provided}
+use Rattle.definition.specs.Format.{◌and_then◌, nothing_after, whole, provided}
 use Rattle.definition.specs.Ops.{ops, Op, instr, named_kind, has_kind}
 use Rattle.definition.specs.Module.{Header, Module, all_consts, all_ops}
 use Rattle.definition.specs.Read.{Line, op_line, line_forms, within, follow, limits, has_room}
@@ -29,6 +29,8 @@ use Rattle.bytecode.specs.Held.{sig_words, chunk_words, op_words}
 use Rattle.listing.specs.Scan.{among_code, codes, admitted, item, scan, form_codes}
 use Rattle.listing.specs.declared.form.Form.{Form}
 use Rattle.listing.specs.declared.form.Form.TheVariants as F
+use Rattle.listing.specs.declared.entry.Head.{Head}
+use Rattle.listing.specs.declared.entry.Head.TheVariants as H
 use Rattle.listing.specs.declared.place.Place.{Place}
 use Rattle.listing.specs.declared.place.Place.TheVariants as P
 use Rattle.listing.specs.Agree.{as_words, ascii, known_max, Known, Agree, agree}
@@ -47,7 +49,11 @@ form_number F.Signature = 7
 form_number F.Chunk = 8
 form_number F.Constant = 9
 form_number F.Close = 10
-form_number (F.Op row) = 11 + row
+
+-- an op by the row of its name
+abbrev pub head_number : Head → ℕ
+head_number (H.Form f) = form_number f
+head_number (H.Op row) = 11 + row.number
 
 abbrev pub place_number : Place → ℕ
 place_number P.Start = 0
@@ -235,25 +241,32 @@ pub record FormAt (n k : ℕ) (fs : List (LineForm Line)) : Type 0 where
   pub here : drop k fs ≡ this ∷ drop (suc k) fs
   pub right : Right n this
   pub coded : get_or (form_codes fs) k [] ≡ codes this.items
+
+pub form-at : (n k m : ℕ) (fs : List (LineForm Line)) → m ≡ n + k → AllRight n fs → k < length fs → FormAt m k fs
+unfolding form_codes
+form-at n k m [] e a h = absurd (omega arith)
+form-at n zero m (f ∷ fs) e a h =
+    let d : n ≡ m = omega arith in
+    record { this = f; here = refl; right = subst (λ (i : ℕ). Right i f) d a.0; coded = refl }
+form-at n (suc k) m (f ∷ fs) e a h =
+    let r = form-at (suc n) k m fs (omega arith) a.1 (omega arith) in
+    record { this = r.this; here = r.here; right = r.right; coded = r.coded }
+
+-- its text, which no form after it begins with
+pub record Apart (k : ℕ) (fs : List (LineForm Line)) (this : LineForm Line) : Type 0 where
   pub keyed : get_or (keys fs) k [] ≡ key this.items
   pub apart : T (apart_from (key this.items) (keys (drop (suc k) fs)))
 
-pub form-at : (n k m : ℕ) (fs : List (LineForm Line)) → m ≡ n + k → AllRight n fs → T (all_apart (keys fs)) → k < length fs → FormAt m k fs
-unfolding form_codes keys all_apart
-form-at n k m [] e a t h = absurd (omega arith)
-form-at n zero m (f ∷ fs) e a t h =
-    let d : n ≡ m = omega arith in
-    record {
-      this = f;
-      here = refl;
-      right = subst (λ (i : ℕ). Right i f) d a.0;
-      coded = refl;
-      keyed = refl;
-      apart = and_l (apart_from (key f.items) (keys fs)) (all_apart (keys fs)) t;
-    }
-form-at n (suc k) m (f ∷ fs) e a t h =
-    let r = form-at (suc n) k m fs (omega arith) a.1 (and_r (apart_from (key f.items) (keys fs)) (all_apart (keys fs)) t) (omega arith) in
-    record { this = r.this; here = r.here; right = r.right; coded = r.coded; keyed = r.keyed; apart = r.apart }
+pub form-apart : (k : ℕ) (fs : List (LineForm Line)) (f : LineForm Line) → drop k fs ≡ f ∷ drop (suc k) fs → T (all_apart (keys fs)) → Apart k fs f
+unfolding keys all_apart
+form-apart zero [] f e t = absurd (omega (arith, ap length e))
+form-apart (suc k) [] f e t = absurd (omega (arith, ap length e))
+form-apart zero (g ∷ gs) f e t =
+    let q : g ≡ f = cc in
+    subst (Apart zero (g ∷ gs)) q (record { keyed = refl; apart = and_l (apart_from (key g.items) (keys gs)) (all_apart (keys gs)) t })
+form-apart (suc k) (g ∷ gs) f e t =
+    let r = form-apart k gs f e (and_r (apart_from (key g.items) (keys gs)) (all_apart (keys gs)) t) in
+    record { keyed = r.keyed; apart = r.apart }
 
 -- ── Reading by a form ─────────────────────────────────────────────────────────────────────
 
@@ -301,3 +314,28 @@ module _ (bs : Bytes) (k : ℕ) (fs : List (LineForm Line)) (en : FormAt k k fs)
         ap (λ (o : Option (Line × Bytes)). o and_then nothing_after) e.2 ∙ ap (λ (r : Bytes). nothing_after (l, r)) d,
         subst (λ (x : List ℕ). Fits l k x) w (en.right.fits e.0),
       )) agreed
+
+  -- ── Trying it before the forms after it ─────────────────────────────────────────────────
+
+  skipped : taken ≡ none → whole shape_at (drop k fs) bs ≡ whole shape_at (drop (suc k) fs) bs
+  unfolding taken whole
+  skipped e = rw en.here (by_first _ _ e)
+    where
+      by_first : (o x : Option Line) → o ≡ none → ◌≡◌ {A = Option Line} (elim o [ some a ↦ some a | none ↦ x ]) x
+      by_first none x e = refl
+      by_first (some a) x e = absurd (no_some (sym e))
+
+  pub tried_none : scan (codes en.this.items) bs ≡ none → whole shape_at (drop k fs) bs ≡ whole shape_at (drop (suc k) fs) bs
+  tried_none p = skipped (taken_none p)
+
+  pub tried_more : (vs : List ℕ) (b : ℕ) (rest : Bytes) → scan (codes en.this.items) bs ≡ some (vs, b ∷ rest)
+      → whole shape_at (drop k fs) bs ≡ whole shape_at (drop (suc k) fs) bs
+  tried_more vs b rest p = skipped (taken_more vs b rest p)
+
+  pub tried_all : (vs : List ℕ) → scan (codes en.this.items) bs ≡ some (vs, []) → (l : Line) × (whole shape_at (drop k fs) bs ≡ some l) × Fits l k vs
+  unfolding taken whole
+  tried_all vs p = let t = taken_all vs p in (t.0, rw en.here (at_first _ _ t.0 t.1), t.2)
+    where
+      at_first : (o x : Option Line) (l : Line) → o ≡ some l → ◌≡◌ {A = Option Line} (elim o [ some a ↦ some a | none ↦ x ]) (some l)
+      at_first none x l e = absurd (no_some e)
+      at_first (some a) x l e = e

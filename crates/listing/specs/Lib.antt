@@ -12,4 +12,5 @@ pub mod OpLines
 pub mod OpRead
 pub mod Step
 pub mod Reads
+pub mod Indexed
 pub mod Answer

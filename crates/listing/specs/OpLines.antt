@@ -1,14 +1,18 @@
 -- Lines `(op NAME ..)`: the name is cut off before `)` or before a space and a digit, and its row decides the form.
-use Rattle.std.specs.Prelude.{◌≡◌, Bool, true, false, not, ◌&&◌, ◌||◌, ℕ, suc, ◌+◌, ◌-◌, ◌≤◌, ◌<◌, leb, eqb, length, take, drop}
+use Rattle.std.specs.Prelude.{Option as CodeOption, Some, None, ◌≡◌, Bool, true, false, not, ◌&&◌, ◌||◌, ℕ, suc, ◌+◌, ◌-◌, ◌≤◌, ◌<◌, leb, eqb, length, take, drop}
 use Rattle.std.proofs.Math.Path.{refl, sym, ap}
 use Rattle.std.proofs.lemmas.List.{take_all}
-use Rattle.std.proofs.Common.{◌∙◌, subst, arith, add-one, drop-cons, length-drop, drop_of_length-le, add-zero, add-suc, suc-add, zero-add, eqb→eq, eqb-true, eq-eqb, ne_eqb}
+use Rattle.std.proofs.Common.{◌∙◌, subst, arith, length-append, length-drop, add-zero, add-suc, suc-add, zero-add, eqb→eq, eqb-true, eq-eqb, ne_eqb}
+use Rattle.std.specs.List.{find, range_with_len}
+use Rattle.std.specs.Option.{option_map, unwrap_or}
+use Rattle.std.proofs.lemmas.List.{drop-drop}
 use Rattle.std.proofs.Math.Option.{Option, none, some}
 use mathlib.Core.List.{List, [], ◌∷◌, ◌++◌, map}
 use Prim.Native.String.{String}
 use Rattle.std.proofs.Math.Dec.{T}
 use Rattle.std.specs.Float.Ieee.Fits.{and_l, and_r}
 use Rattle.std.proofs.Math.ListN.{get_or}
+use Rattle.std.proofs.Math.Seq.{drop-append_seam}
 use Rattle.std.proofs.lemmas.Bool.{eqb-false}
 use Rattle.definition.specs.Shapes.{same_places}
 use Rattle.definition.specs.Format.{Bytes, bytes, Item, text, numbers, Form, form, parse, shape_at, strip, number_at, numbers_at, provided}
@@ -37,33 +41,42 @@ pub name_more : (b : ℕ) (bs : Bytes) → name_ends (b ∷ bs) ≡ false → na
 unfolding name_of
 name_more b bs e = rw (name_of, e)
 
--- The same at byte i, for a loop.
-pub name_start : (bs : Bytes) → length (name_of bs) ≡ 0 + length (name_of (drop 0 bs))
-name_start bs = sym (zero-add (length (name_of bs)))
+-- whether it ends at byte i, as a search over the bytes asks
+abbrev pub ends_at : Bytes → ℕ → Bool
+ends_at bs i = name_ends (drop i bs)
 
-pub name_end : (bs : Bytes) (i : ℕ) → length bs ≤ i → length (name_of (drop i bs)) ≡ 0
+name_from : (all bs : Bytes) (i : ℕ) → drop i all ≡ bs
+    → unwrap_or (find (ends_at all) (range_with_len i (length bs))) (i + length bs) ≡ i + length (name_of bs)
 unfolding name_of
-name_end bs i h = ap (λ (r : Bytes). length (name_of r)) (drop_of_length-le bs {i = i} h)
+name_from all [] i e = refl
+name_from all (b ∷ bs) i e =
+    go (name_ends (b ∷ bs)) refl (name_from all bs (i + 1) (sym (drop-drop 1 i all) ∙ ap (drop 1) e))
+  where
+    go : (x : Bool) → name_ends (b ∷ bs) ≡ x
+        → unwrap_or (find (ends_at all) (range_with_len (i + 1) (length bs))) ((i + 1) + length bs) ≡ (i + 1) + length (name_of bs)
+        → unwrap_or (find (ends_at all) (range_with_len i (suc (length bs)))) (i + suc (length bs)) ≡ i + length (name_of (b ∷ bs))
+    go true q on = rw (e, name_of, q) (sym (add-zero i))
+    go false q on =
+        rw (e, name_of, q)
+        (ap (unwrap_or (find (ends_at all) (range_with_len (i + 1) (length bs)))) (let z : i + suc (length bs) ≡ (i + 1) + length bs = omega arith in z)
+        ∙ on ∙ (let z : (i + 1) + length (name_of bs) ≡ i + suc (length (name_of bs)) = omega arith in z))
 
-module _ (bs : Bytes) (i : ℕ) (h : i < length bs) where
-  -- the bytes from there on, as the code has them
-  abbrev from : Bytes
-  from = take (length bs - i) (drop i bs)
+-- the first byte at which it ends
+pub name_found : (bs : Bytes) (r : CodeOption ℕ) → option_map (λ x. x) r ≡ find (ends_at bs) (range_with_len 0 (length bs))
+    → unwrap_or r (length bs) ≡ length (name_of bs)
+name_found bs r e =
+    ap (λ (o : CodeOption ℕ). unwrap_or o (length bs)) (same r ∙ e)
+    ∙ ap (unwrap_or (find (ends_at bs) (range_with_len 0 (length bs)))) (sym (zero-add (length bs)))
+    ∙ name_from bs bs 0 refl
+    ∙ zero-add (length (name_of bs))
+  where
+    same : (o : CodeOption ℕ) → o ≡ option_map (λ x. x) o
+    same None = refl
+    same (Some x) = refl
 
-  from_is : from ≡ drop i bs
-  from_is = take_all (length bs - i) (drop i bs) (omega (arith, length-drop i bs))
-
-  pub name_here : name_ends from ≡ true → length (name_of (drop i bs)) ≡ 0
-  name_here e = ap (λ (r : Bytes). length r) (name_stop (drop i bs) (sym (ap name_ends from_is) ∙ e))
-
-  pub name_on : name_ends from ≡ false → i + length (name_of (drop i bs)) ≡ (i + 1) + length (name_of (drop (i + 1) bs))
-  name_on e =
-      let d : drop i bs ≡ get_or bs i 0 ∷ drop (suc i) bs = drop-cons bs i 0 h in
-      let q : name_of (drop i bs) ≡ get_or bs i 0 ∷ name_of (drop (suc i) bs) =
-      ap name_of d ∙ name_more (get_or bs i 0) (drop (suc i) bs) (sym (ap name_ends (from_is ∙ d)) ∙ e) in
-      omega (arith, ap length q, ap (λ (k : ℕ). length (name_of (drop k bs))) (add-one i))
-
-pub ruleset name_laws = (name_start, name_end, name_here, name_on)
+-- the bytes from one on, as the code has them
+pub from_is : (bs : Bytes) (i : ℕ) → take (length bs - i) (drop i bs) ≡ drop i bs
+from_is bs i = take_all (length bs - i) (drop i bs) (omega (arith, length-drop i bs))
 
 -- a name and what follows it
 pub name_front : (bs : Bytes) → bs ≡ name_of bs ++ drop (length (name_of bs)) bs
@@ -121,6 +134,12 @@ strip-front (t ∷ ts) (b ∷ bs) r e = go (eqb t b) refl e (λ d. strip-front t
         → (strip ts bs ≡ some r → bs ≡ ts ++ r) → b ∷ bs ≡ t ∷ (ts ++ r)
     go true q d f = let h : bs ≡ ts ++ r = f d in let k : t ≡ b = eqb-true t b q in cc
     go false q d f = absurd (no_some d)
+
+-- what follows a text at the front
+pub strip-rest : (t s r : Bytes) → some r ≡ strip t s → (r ≡ drop (length t) s) × (length t ≤ length s)
+strip-rest t s r e =
+    let f : s ≡ t ++ r = strip-front t s r (sym e) in
+    (sym (ap (drop (length t)) f ∙ drop-append_seam t r), omega (arith, ap length f, length-append t r))
 
 strip_back : (t r : Bytes) → strip t (t ++ r) ≡ some r
 unfolding strip

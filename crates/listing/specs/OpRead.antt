@@ -5,7 +5,7 @@ use Rattle.std.proofs.Common.{◌∙◌, subst, drop_of_length-le, length-append
 use Rattle.std.proofs.Math.Bool.{true, false}
 use Rattle.std.proofs.Math.Option.{Option, none, some}
 use mathlib.Core.List.{List, [], ◌∷◌, ◌++◌, append_assoc, append-nil}
-use Prim.Native.Nat.{ℕ, zero, suc, ◌+◌, ◌≤◌, ◌<◌}
+use Prim.Native.Nat.{ℕ, zero, suc, ◌+◌, ◌-◌, ◌≤◌, ◌<◌}
 use native.Mathlib.Omega.{arith}
 use Rattle.std.proofs.Math.Numerals.{add-one}
 use Rattle.std.proofs.Math.Dec.{T, eqb}
@@ -28,10 +28,17 @@ use Rattle.listing.specs.Agree.{joined_nothing, joined_both, known_max, known_al
 use Rattle.listing.specs.Forms.{op_fits}
 use Rattle.listing.specs.Fitting.{numbers_fit, within_long}
 use Rattle.std.specs.Bool.{then_some}
+use Rattle.std.specs.List.{list_all, zip}
+use Rattle.std.proofs.lemmas.List.{take_all}
+use Rattle.std.proofs.Math.ListN.{length-drop}
+use Rattle.std.proofs.Math.Seq.{get_or-drop}
+use Rattle.theorems.specs.KindOf.{has_kinds}
+use Rattle.listing.specs.Kinds.{is_fine, kinds_all}
 use lib.Pointwise.{pointwise}
-use Rattle.listing.specs.Find.{whole_line, Formed, formed_none}
-use Rattle.listing.specs.declared.form.Form.{Form}
-use Rattle.listing.specs.declared.form.Form.TheVariants as F
+use Rattle.listing.specs.Find.{whole_line, Entered, entered_none}
+use Rattle.bytecode.specs.declared.ops.row.Row.{Row}
+use Rattle.listing.specs.declared.entry.Entry.{Entry}
+use Rattle.listing.specs.declared.entry.Head.TheVariants as H
 use Rattle.listing.specs.Rows.{rowed_none}
 use Rattle.listing.specs.Stored.{Stored}
 use Rattle.listing.specs.declared.entry.Values.{Values}
@@ -105,13 +112,10 @@ module _ (o : Words) (row j : ℕ) (s : Bytes) (old v : Values) (so : Operands o
   unfolding numbers_at joined ◌and_then◌
   none_left e = (so.ws, so.is ∙ ap (λ (ms : List ℕ). joined so.ws (numbers_at ms s)) e ∙ (rw (append-nil so.ws)), so.stored)
 
-  pub operands_all : 3 ≤ j → Done
-  operands_all h = none_left (drop_of_length-le (maxima_of row) {i = j} (omega (arith, maxima_short row low)))
+  pub operands_all : length (maxima_of row) ≤ j → Done
+  operands_all h = none_left (drop_of_length-le (maxima_of row) {i = j} h)
 
-  pub operands_end : get_or (maxima_of row) j 0 ≡ 0 → Done
-  operands_end e = none_left (maxima_end row j low e)
-
-  module _ (n : get_or (maxima_of row) j 0 ≡ 0 → ⊥) where
+  module _ (l : j < length (maxima_of row)) where
     most : ℕ
     most = get_or (maxima_of row) j 0
 
@@ -121,7 +125,6 @@ module _ (o : Words) (row j : ℕ) (s : Bytes) (old v : Values) (so : Operands o
     here : o ≡ joined so.ws (reads (number_at (admitted (max_code (get_or (maxima_of row) j 0))) s))
     unfolding numbers_at reads
     here =
-        let l : j < length (maxima_of row) = maxima_here row j n in
         so.is
         ∙ ap (λ (ms : List ℕ). joined so.ws (numbers_at ms s)) (drop-cons (maxima_of row) j 0 l ∙ ap (λ (k : ℕ). get_or (maxima_of row) j 0 ∷ drop k (maxima_of row)) (sym (add-one j)))
         ∙ ap (λ (x : Option (ℕ × Bytes)). joined so.ws (reads x)) (sym (max_number (get_or (maxima_of row) j 0) s (known_here row j low l)))
@@ -142,7 +145,20 @@ module _ (o : Words) (row j : ℕ) (s : Bytes) (old v : Values) (so : Operands o
           stored = λ vs st. subst (Stored w) (append_assoc vs so.ws (x ∷ [])) (push (vs ++ so.ws) (so.stored vs st));
         }
 
-pub ruleset operand_laws = (rowed_none, operands_start, operands_all, operands_end, operand_none, operand_more)
+pub ruleset operand_laws = (rowed_none, operands_start, operands_all, operand_none, operand_more)
+
+-- the kinds that the values of an op name, in the words behind the row's first
+pub kinds_stored : (float : ℕ) (row : Row) (v : Values) (vs : List ℕ) → Stored v vs
+    → list_all (is_fine float) (zip (maxima_of row.number) (take (length v.words - 1) (drop 1 v.words))) ≡ has_kinds float (maxima_of row.number) vs
+kinds_stored float row v vs st =
+    let few = maxima_short row.number row.low in
+    let all : take (length v.words - 1) (drop 1 v.words) ≡ drop 1 v.words = take_all (length v.words - 1) (drop 1 v.words) (omega (arith, length-drop 1 v.words)) in
+    kinds_all float (maxima_of row.number) vs (take (length v.words - 1) (drop 1 v.words)) (omega (arith, ap length all, length-drop 1 v.words, st.long, few))
+    (λ i h.
+    ap (λ (ws : List ℕ). get_or ws i 0) all
+    ∙ get_or-drop 1 v.words i 0
+    ∙ ap (λ (k : ℕ). get_or v.words k 0) (let z : 1 + i ≡ i + 1 = omega arith in z)
+    ∙ st.here i (omega (arith, few)))
 
 -- ── The whole line ────────────────────────────────────────────────────────────────────────
 
@@ -186,45 +202,44 @@ module _ (a name : Bytes) (n : ℕ) (k : n ≡ length (name_of a)) (f : name ≡
   unfolding named_line line_of_row
   op_none e = ap (λ (o : Option ℕ). line_of_row o (drop (length (name_of a)) a)) (ap lookup (sym name_is) ∙ e)
 
-  module _ (row : ℕ) (e : lookup name ≡ some row) where
-    pub row_low : row < 75
-    row_low = lookup_low name row (sym e)
-
+  module _ (r : Row) (e : lookup name ≡ some r.number) where
     module _ (rest : Bytes) (d : rest ≡ drop n a) where
-      by_row : named_line a ≡ after_name row (maxima_of row) rest
+      by_row : named_line a ≡ after_name r.number (maxima_of r.number) rest
       unfolding named_line line_of_row
       by_row =
           ap (λ (o : Option ℕ). line_of_row o (drop (length (name_of a)) a)) (ap lookup (sym name_is) ∙ e)
-          ∙ ap (after_name row (maxima_of row)) (ap (λ (i : ℕ). drop i a) (sym k) ∙ sym d)
+          ∙ ap (after_name r.number (maxima_of r.number)) (ap (λ (i : ℕ). drop i a) (sym k) ∙ sym d)
 
-      pub op_bad : numbers_at (maxima_of row) rest ≡ none → named_line a ≡ none
+      pub op_bad : numbers_at (maxima_of r.number) rest ≡ none → named_line a ≡ none
       unfolding after_name ◌and_then◌
       op_bad x = by_row ∙ (rw x)
 
-      module _ (ws : List ℕ) (x : Bytes) (y : numbers_at (maxima_of row) rest ≡ some (ws, x)) (v : Values) (st : Stored v ws) where
-        closes : named_line a ≡ closing row ws x
+      module _ (ws : List ℕ) (x : Bytes) (y : numbers_at (maxima_of r.number) rest ≡ some (ws, x)) (v : Values) (st : Stored v ws) where
+        closes : named_line a ≡ closing r.number ws x
         unfolding after_name ◌and_then◌
         closes = by_row ∙ (rw y)
 
-        pub op_formed : (q : CodeOption Form) (b : Bool) (close : Bytes) → q ≡ then_some b (F.Op row) → b ≡ pointwise eqb x close → close ≡ 41 ∷ []
-            → Formed (named_line a) q v
+        abbrev entry : Entry
+        entry = record { head = H.Op r; values = v }
+
+        pub op_entered : (q : CodeOption Entry) (b : Bool) (close : Bytes) → q ≡ then_some b entry → b ≡ pointwise eqb x close → close ≡ 41 ∷ []
+            → Entered (named_line a) q
         unfolding closing
-        op_formed q b close p z w =
-            subst (λ (o : CodeOption Form). Formed (named_line a) o v) (sym p) (go b (sym (places_are x (41 ∷ [])) ∙ ap (pointwise eqb x) (sym w) ∙ sym z))
+        op_entered q b close p z w =
+            subst (λ (o : CodeOption Entry). Entered (named_line a) o) (sym p) (go b (sym (places_are x (41 ∷ [])) ∙ ap (pointwise eqb x) (sym w) ∙ sym z))
           where
-            go : (b : Bool) → same_places x (41 ∷ []) ≡ b → Formed (named_line a) (then_some b (F.Op row)) v
+            go : (b : Bool) → same_places x (41 ∷ []) ≡ b → Entered (named_line a) (then_some b entry)
             go true q =
-                let o : Op = record { code = row; operands = ws } in (
+                let o : Op = record { code = r.number; operands = ws } in (
                   op_line o,
                   ws,
                   closes ∙ (rw (closing, q)),
-                  omega (arith, row_low),
-                  op_fits (11 + row) row refl row_low o refl (within_long (maxima_of row) ws (numbers_fit (maxima_of row) rest _ y)),
+                  op_fits (11 + r.number) r.number refl r.low o refl (within_long (maxima_of r.number) ws (numbers_fit (maxima_of r.number) rest _ y)),
                   st,
                 )
             go false q = closes ∙ (rw (closing, q))
 
-pub ruleset op_laws = (name_fits, op_none, row_low, op_bad, formed_none)
+pub ruleset op_laws = (name_fits, op_none, op_bad, entered_none)
 
 -- ── Any line ──────────────────────────────────────────────────────────────────────────────
 
@@ -252,17 +267,17 @@ no_op s e =
     alone none = refl
     alone (some l) = refl
 
--- The form of a line by whether it begins as an op.
-module _ (s : Bytes) (q : CodeOption Form) (v : Values) where
+-- What a line is by whether it begins as an op.
+module _ (s : Bytes) (q : CodeOption Entry) where
   abbrev op_text : Bytes
   op_text = 40 ∷ 111 ∷ 112 ∷ 32 ∷ []
 
-  pub formed_op : (rest : Bytes) → strip op_text s ≡ some rest → Formed (named_line rest) q v → Formed (read_line s) q v
+  pub entered_op : (rest : Bytes) → strip op_text s ≡ some rest → Entered (named_line rest) q → Entered (read_line s) q
   unfolding named_line bytes
-  formed_op rest e x = subst (λ (o : Option Line). Formed o q v) (sym (as_op s rest e ∙ by_name s rest e)) x
+  entered_op rest e x = subst (λ (o : Option Line). Entered o q) (sym (as_op s rest e ∙ by_name s rest e)) x
 
-  pub formed_other : strip op_text s ≡ none → Formed (whole_line line_forms s) q v → Formed (read_line s) q v
+  pub entered_other : strip op_text s ≡ none → Entered (whole_line line_forms s) q → Entered (read_line s) q
   unfolding bytes
-  formed_other e x = subst (λ (o : Option Line). Formed o q v) (sym (no_op s e)) x
+  entered_other e x = subst (λ (o : Option Line). Entered o q) (sym (no_op s e)) x
 
-pub ruleset form_laws = (formed_op, formed_other)
+pub ruleset entry_laws = (entered_op, entered_other)

@@ -1,11 +1,12 @@
 -- All lines, and what reading a listing gives.
-use Rattle.std.specs.Prelude.{◌≡◌, Bool, ◌&&◌, ◌⊎◌, List, [], ◌∷◌, ◌++◌, eqb, ltb, length, replicate, drop, Option as CodeOption, Some, None, Result as Outcome, Ok, Err}
+use Rattle.std.specs.Prelude.{◌≡◌, Bool, ◌&&◌, ◌⊎◌, List, [], ◌∷◌, ◌++◌, ◌≢◌, eqb, ltb, length, replicate, set, drop, Option as CodeOption, Some, None, Result as Outcome, Ok, Err}
 use Rattle.std.proofs.Math.Path.{refl, sym, ap, subst}
-use Rattle.std.proofs.Common.{◌∙◌, inl, inr, add-one, length-append, le-leb, eq-eqb, ne_eqb, length-take-le, le-ltb, lt-ltb, Bor}
+use Rattle.std.proofs.Common.{◌∙◌, inl, inr, ⊎_elim, add-one, length-append, length-set, get_or-set_same, get_or-set_other, le-leb, eq-eqb, ne_eqb, length-take-le, le-ltb, lt-ltb, Bor}
 use Rattle.std.proofs.lemmas.List.{take_all}
 use Rattle.std.proofs.Math.Bool.{true, false}
 use Prim.Native.Nat.{ℕ, zero, suc, ◌+◌, ◌-◌, ◌≤◌, ◌<◌}
 use native.Mathlib.Omega.{arith}
+use Rattle.std.proofs.Math.Decide.{dec_lt}
 use Rattle.std.specs.List.{position_or_len}
 use Rattle.std.proofs.Math.Bool.{not, cond}
 use borrow.Rule.Slice.PartMut.{post_of}
@@ -16,7 +17,7 @@ use Rattle.definition.specs.Basics.{Result, ok, refused, ◌>>=◌, unless, pass
 use Rattle.definition.specs.Format.{Bytes, provided}
 use Rattle.definition.specs.Module.{Module, all_consts, all_ops}
 use Rattle.definition.specs.Read.{Lines, line, end, byte_before, cut, Reader, at_start, or_line, next_line, is_empty, read_lines, read}
-use Rattle.bytecode.specs.Tables.{size, table, rows}
+use Rattle.bytecode.specs.Tables.{size, table, rows, eq_or}
 use Rattle.bytecode.specs.Held.{Held, lists, Sound, header_rows, chunk_rows}
 use Rattle.listing.specs.Step.{StepIs}
 use Rattle.listing.specs.Forms.{place_number}
@@ -114,18 +115,49 @@ pub start_sound : Sound at_start
 unfolding lists at_start header_rows chunk_rows all_consts all_ops
 start_sound = record { empty = λ e. refl; chunk = λ a b. absurd (omega arith) }
 
--- the counts of all tables are cleared
+-- the counts of the first k tables are cleared
+pub Cleared : List ℕ → ℕ → Type 0
+Cleared t k = (length t ≡ size) × ((j : ℕ) → j < k → get_or t j 0 ≡ 0)
+
+pub clear_none : (t : List ℕ) → length t ≡ size → Cleared t 0
+unfolding Cleared
+clear_none t l = (l, λ j h. absurd (omega arith))
+
+pub clear_more : (t : List ℕ) (k : ℕ) → k < 10 → Cleared t k → Cleared (set t k 0) (k + 1)
+unfolding Cleared
+clear_more t k h c = (
+  length-set t k 0 ∙ c.0,
+  λ j l. ⊎_elim
+      (λ (e : j ≡ k). subst (λ (i : ℕ). get_or (set t k 0) i 0 ≡ 0) (sym e) (get_or-set_same t k 0 0 (omega (arith, c.0))))
+      (λ (n : j ≢ k). get_or-set_other t k j 0 0 n ∙ c.1 j (below j k l n))
+      (eq_or j k),
+)
+  where
+    below : (j k : ℕ) → j < k + 1 → j ≢ k → j < k
+    below j k l n = elim (dec_lt j k) [ yes p ↦ p | no q ↦ absurd (n (omega arith)) ]
+
+pub clear_long : (t : List ℕ) (k : ℕ) → Cleared t k → length t ≡ size
+unfolding Cleared
+clear_long t k c = c.0
+
+pub clear_done : (t : List ℕ) (k : ℕ) → 10 ≤ k → Cleared t k → Held t (lists at_start)
+unfolding Cleared table rows
+clear_done t k h c =
+    record {
+      long = c.0;
+      same = λ j l. (rw (c.1 j (omega arith), start_empty j));
+      full = λ j l. omega (arith, c.1 j (omega arith));
+    }
+
+-- all of them at once
 pub cleared : (t counts : List ℕ) → length t ≡ size → counts ≡ replicate 10 0 → Held (counts ++ post_of 0 10 t) (lists at_start)
-unfolding table rows
+unfolding Cleared
 cleared t counts l e =
     let n : length counts ≡ 10 = ap length e in
-    let zero : (j : ℕ) → j < 10 → get_or (counts ++ post_of 0 10 t) j 0 ≡ 0 =
-    λ j h. get_or-append counts (post_of 0 10 t) 0 j (omega arith) ∙ ap (λ (x : List ℕ). get_or x j 0) e ∙ get_or-replicate 10 j 0 0 h in
-    record {
-      long = length-append counts (post_of 0 10 t) ∙ omega (arith, n, length-drop 10 t);
-      same = λ j h. (rw (zero j h, start_empty j));
-      full = λ j h. omega (arith, zero j h);
-    }
+    clear_done (counts ++ post_of 0 10 t) 10 (omega arith) (
+      length-append counts (post_of 0 10 t) ∙ omega (arith, n, length-drop 10 t),
+      λ j h. get_or-append counts (post_of 0 10 t) 0 j (omega arith) ∙ ap (λ (x : List ℕ). get_or x j 0) e ∙ get_or-replicate 10 j 0 0 h,
+    )
 
 -- ── The lines so far ──────────────────────────────────────────────────────────────────────
 

@@ -1,6 +1,6 @@
 -- What codes read of a line, value by value.
 use Rattle.std.specs.Prelude.{◌≡◌, refl, Bool, true, false, not, ◌&&◌, ◌≢◌, List, [], ◌∷◌, ◌++◌, ℕ, ◌-◌, ◌≤◌, ◌<◌, T, eqb, ltb, length, get_or, take, drop, Option as CodeOption, Some, None}
-use Rattle.std.proofs.Common.{sym, ap, ◌∙◌, subst, arith, ⊎_elim, append_assoc, append-nil, eq-eqb, ne_eqb, eqb-true, le-ltb, Bor}
+use Rattle.std.proofs.Common.{sym, ap, ◌∙◌, subst, arith, ⊎_elim, append_assoc, append-nil, drop-cons, drop_of_length-le, eq-eqb, ne_eqb, eqb-true, le-ltb, Bor}
 use Rattle.std.proofs.lemmas.List.{take_all}
 use Rattle.std.proofs.lemmas.Bool.{not-true, not-false}
 use Rattle.std.proofs.Math.Option.{Option, none, some}
@@ -183,6 +183,31 @@ module _ (o : Words) (cs : List ℕ) (s : Bytes) (old v : Values) (so : Sofar o 
                 ∙ joined_then (x ∷ []) (shape_words r) (scan after)
                 ∙ ap (λ (y : Words). joined (x ∷ []) (then_words y (scan after))) (sym (item_shapes code r g))
                 ∙ ap (joined (x ∷ [])) (sym (scan_step cs r h)))
+
+-- ── Laws of the ends of shapes and of values ──────────────────────────────────────────────
+
+pub over_other : (c : ℕ) (bs : Bytes) → c ≢ 141 → false ≡ shapes_over c bs
+unfolding shapes_over
+over_other c bs n = rw (ne_eqb c 141 n)
+
+pub over_here : (c : ℕ) (s : Bytes) (i : ℕ) → c ≡ 141 → i < length s → not (eqb (get_or s i 0) 32) ≡ shapes_over c (drop i s)
+unfolding shapes_over begins_with
+over_here c s i e h = rw (eq-eqb c 141 e, drop-cons s i 0 h)
+
+pub over_end : (c : ℕ) (s : Bytes) (i : ℕ) → c ≡ 141 → length s ≤ i → true ≡ shapes_over c (drop i s)
+unfolding shapes_over begins_with
+over_end c s i e h = rw (eq-eqb c 141 e, drop_of_length-le s h)
+
+pub value_first : (c : ℕ) (bs : Bytes) → c ≡ 140 → shape_word bs ≡ value_at c bs
+unfolding value_at
+value_first c bs e = sym (ap (λ (x : ℕ). value_at x bs) e)
+
+pub value_second : (c : ℕ) (bs : Bytes) → c ≡ 141 → shape_word bs ≡ value_at c bs
+value_second c bs e = sym (value_shape c bs e)
+
+pub value_number : (c : ℕ) (bs : Bytes) → c ≢ 140 → c ≢ 141 → number_at (admitted c) bs ≡ value_at c bs
+unfolding value_at
+value_number c bs m n = rw (value_at, ne_eqb c 140 m, ne_eqb c 141 n)
 
 -- a value takes bytes
 pub value_less : (c : ℕ) (s : Bytes) (x : ℕ) (r : Bytes) → value_at c s ≡ some (x, r) → length r < length s

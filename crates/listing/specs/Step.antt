@@ -1,12 +1,13 @@
 -- One line: from the tables before it to the tables after it.
 use Rattle.std.proofs.Math.Path.{◌≡◌, refl, ap, subst}
-use Rattle.std.proofs.Common.{sym, ◌∙◌, arith, zero-add, inl, inr, ⊎_elim, length-append, length-set, get_or-set_same, get_or-set_other}
-use Rattle.std.specs.Prelude.{Bool, ◌&&◌, T, eqb, ◌⊎◌, ◌≢◌, set, Option as CodeOption, Some, None, Result as Outcome, Ok, Err}
+use Rattle.std.proofs.Common.{sym, ◌∙◌, arith, zero-add, eqb→eq, ltb→lt, inl, inr, ⊎_elim, length-append, length-set, get_or-set_same, get_or-set_other}
+use Rattle.std.specs.Prelude.{Bool, ◌&&◌, T, ltb, eqb, ◌⊎◌, ◌≢◌, set, Option as CodeOption, Some, None, Result as Outcome, Ok, Err}
 use Rattle.std.proofs.Math.Bool.{true, false, not}
 use Rattle.std.proofs.Math.Option.{Option, none, some}
 use mathlib.Core.List.{List, [], ◌∷◌, ◌++◌, map, append-nil}
 use Prim.Native.Nat.{ℕ, zero, suc, ◌+◌, ◌-◌, ◌≤◌, ◌<◌}
 use Rattle.std.proofs.Math.Dec.{leb}
+use Rattle.std.specs.Float.Ieee.Fits.{and_l, and_r}
 use borrow.Author.Tests.{le-ltb, lt-ltb, le-leb, lt-leb, leb-true, eq-eqb, ne_eqb}
 use Rattle.std.proofs.Math.Decide.{dec_lt}
 use Rattle.std.proofs.Math.ListN.{length, get_or, get_or-map, get_or-eq_default}
@@ -15,17 +16,19 @@ use Rattle.definition.specs.Format.{Bytes, provided}
 use Rattle.definition.specs.Module.{Module, Code, all_consts, all_ops}
 use Rattle.definition.specs.Read.{Reader, Line, first_line, slot_line, shared_line, private_line, enum_line, native_line, sig_line, chunk_line}
 use Rattle.definition.specs.Read.{const_line, op_line, close_line, read_line, limits, limit, add, next_line, or_line, within, to_last, add_const, add_op}
-use Rattle.bytecode.specs.Tables.{tables, cap, padded, cells_eq, stride, stride_small, Appended, eq_or}
+use Rattle.bytecode.specs.Tables.{tables, cap, padded, cells_eq, stride, stride_small, Appended, eq_or, all_below, at_each}
 use Rattle.definition.specs.Shapes.{is_lacking}
 use Rattle.theorems.specs.KindOf.{has_kinds}
 use Rattle.bytecode.specs.Meaning.{maxima_of, table_header, cell}
 use Rattle.bytecode.specs.Held.{Held, lists, Sound, Stands, kind, words, more, more_is, held_more, held_count, length-map, chunk_rows, header_rows, header_words, cell_is}
 use Rattle.bytecode.specs.Held.{slot_words, shared_words, private_words, one_word, native_words, sig_words, op_words}
-use Rattle.listing.specs.Forms.{Fits, form_number, form_kind, place_number, row_words, head_word, tail_words, may_stand, may_say, place_after, own_limit, counts, kinds, lows, highs}
+use Rattle.listing.specs.Forms.{Fits, form_kind, place_number, row_words, head_word, tail_words, may_stand, may_say, place_after, own_limit, counts, kinds, lows, highs, nexts, head_number}
+use Rattle.bytecode.specs.declared.ops.row.Row.{Row}
 use Rattle.listing.specs.Kinds.{named_same, lacking_limited}
 use Rattle.listing.specs.Stored.{Stored}
 use Rattle.listing.specs.declared.entry.Values.{Values}
-use Rattle.listing.specs.declared.form.Form.{Form}
+use Rattle.listing.specs.declared.entry.Head.{Head}
+use Rattle.listing.specs.declared.entry.Head.TheVariants as H
 use Rattle.listing.specs.declared.form.Form.TheVariants as F
 use Rattle.listing.specs.declared.place.Place.{Place}
 use Rattle.answer.specs.Answer.{numbers, with_chunk, fields}
@@ -50,10 +53,10 @@ abbrev pub SameWords : List ℕ → List ℕ → Type 0
 SameWords r ws = (j : ℕ) → j < 19 → get_or r j 0 ≡ get_or ws j 0
 
 -- the words of a line's row, after so many constants and instructions
-abbrev pub RowIs : Form → Values → ℕ → ℕ → List ℕ → Type 0
+abbrev pub RowIs : Head → Values → ℕ → ℕ → List ℕ → Type 0
 RowIs form v constants instructions words =
-    (m : Module) (vs : List ℕ) (l : Line) → Stored v vs → Fits l (form_number form) vs → own_limit (form_number form) vs ≡ none
-    → constants ≡ length (all_consts m.chunks) → instructions ≡ length (all_ops m.chunks) → SameWords words (row_words m (form_number form) vs)
+    (m : Module) (vs : List ℕ) (l : Line) → Stored v vs → Fits l (head_number form) vs → own_limit (head_number form) vs ≡ none
+    → constants ≡ length (all_consts m.chunks) → instructions ≡ length (all_ops m.chunks) → SameWords words (row_words m (head_number form) vs)
 
 module _ (n : ℕ) (r : Reader) (s : Bytes) where
   pub not_read : read_line s ≡ none → next_line n r s ≡ refused (1 ∷ 0 ∷ n ∷ [])
@@ -229,95 +232,95 @@ held_next t u vals vs r l f q fit h e held s p room a same =
 -- ── What the code's tests say ─────────────────────────────────────────────────────────────
 
 -- where a form says nothing of its own
-own_other : (form : Form) (vs : List ℕ) → (form ≡ F.Signature → ⊥) → (form ≡ F.Chunk → ⊥) → own_limit (form_number form) vs ≡ none
+own_other : (form : Head) (vs : List ℕ) → (form ≡ H.Form F.Signature → ⊥) → (form ≡ H.Form F.Chunk → ⊥) → own_limit (head_number form) vs ≡ none
 unfolding own_limit
-own_other F.Module vs a b = refl
-own_other F.SharedSlot vs a b = refl
-own_other F.PrivateSlot vs a b = refl
-own_other F.Shared vs a b = refl
-own_other F.Private vs a b = refl
-own_other F.Enum vs a b = refl
-own_other F.Native vs a b = refl
-own_other F.Signature vs a b = absurd (a refl)
-own_other F.Chunk vs a b = absurd (b refl)
-own_other F.Constant vs a b = refl
-own_other F.Close vs a b = refl
-own_other (F.Op row) vs a b =
-    rw (own_limit, ne_eqb (11 + row) 7 (λ e. absurd (omega arith)), ne_eqb (11 + row) 8 (λ e. absurd (omega arith)))
+own_other (H.Form F.Module) vs a b = refl
+own_other (H.Form F.SharedSlot) vs a b = refl
+own_other (H.Form F.PrivateSlot) vs a b = refl
+own_other (H.Form F.Shared) vs a b = refl
+own_other (H.Form F.Private) vs a b = refl
+own_other (H.Form F.Enum) vs a b = refl
+own_other (H.Form F.Native) vs a b = refl
+own_other (H.Form F.Signature) vs a b = absurd (a refl)
+own_other (H.Form F.Chunk) vs a b = absurd (b refl)
+own_other (H.Form F.Constant) vs a b = refl
+own_other (H.Form F.Close) vs a b = refl
+own_other (H.Op row) vs a b =
+    rw (own_limit, ne_eqb (11 + row.number) 7 (λ e. absurd (omega arith)), ne_eqb (11 + row.number) 8 (λ e. absurd (omega arith)))
 
-say_other : (float : ℕ) (form : Form) (vs : List ℕ) → (form ≡ F.Module → ⊥) → ((row : ℕ) → form ≡ F.Op row → ⊥) → may_say float (form_number form) vs ≡ true
+say_other : (float : ℕ) (form : Head) (vs : List ℕ) → (form ≡ H.Form F.Module → ⊥) → ((row : Row) → form ≡ H.Op row → ⊥) → may_say float (head_number form) vs ≡ true
 unfolding may_say
-say_other float F.Module vs a b = absurd (a refl)
-say_other float F.SharedSlot vs a b = refl
-say_other float F.PrivateSlot vs a b = refl
-say_other float F.Shared vs a b = refl
-say_other float F.Private vs a b = refl
-say_other float F.Enum vs a b = refl
-say_other float F.Native vs a b = refl
-say_other float F.Signature vs a b = refl
-say_other float F.Chunk vs a b = refl
-say_other float F.Constant vs a b = refl
-say_other float F.Close vs a b = refl
-say_other float (F.Op row) vs a b = absurd (b row refl)
+say_other float (H.Form F.Module) vs a b = absurd (a refl)
+say_other float (H.Form F.SharedSlot) vs a b = refl
+say_other float (H.Form F.PrivateSlot) vs a b = refl
+say_other float (H.Form F.Shared) vs a b = refl
+say_other float (H.Form F.Private) vs a b = refl
+say_other float (H.Form F.Enum) vs a b = refl
+say_other float (H.Form F.Native) vs a b = refl
+say_other float (H.Form F.Signature) vs a b = refl
+say_other float (H.Form F.Chunk) vs a b = refl
+say_other float (H.Form F.Constant) vs a b = refl
+say_other float (H.Form F.Close) vs a b = refl
+say_other float (H.Op row) vs a b = absurd (b row refl)
 
-module _ (form : Form) (v : Values) (vs : List ℕ) (st : Stored v vs) where
-  count_small : v.count ≤ 18 → length vs ≤ 18
+module _ (form : Head) (v : Values) (vs : List ℕ) (st : Stored v vs) where
+  pub count_small : v.count ≤ 18 → length vs ≤ 18
   count_small h = elim (dec_lt 18 (length vs)) [ yes p ↦ absurd (omega (arith, st.over p)) | no q ↦ omega arith ]
 
-  count_large : 18 < v.count → 18 < length vs
+  pub count_large : 18 < v.count → 18 < length vs
   count_large h = elim (dec_lt 18 (length vs)) [ yes p ↦ p | no q ↦ absurd (omega (arith, st.count (omega arith))) ]
 
-  pub limit_many : form ≡ F.Signature → 18 < v.count → own_limit (form_number form) vs ≡ some (limit 2)
+  pub limit_many : form ≡ H.Form F.Signature → 18 < v.count → own_limit (head_number form) vs ≡ some (limit 2)
   unfolding own_limit unless
   limit_many g h = rw (g, lt-leb (length vs) 18 (count_large h))
 
-  pub limit_few : form ≡ F.Signature → v.count ≤ 18 → own_limit (form_number form) vs ≡ none
+  pub limit_few : form ≡ H.Form F.Signature → v.count ≤ 18 → own_limit (head_number form) vs ≡ none
   unfolding own_limit unless
   limit_few g h = rw (g, le-leb (length vs) 18 (count_small h))
 
   first_value : get_or vs 0 0 ≡ get_or v.words 1 0
   first_value = sym (st.here 0 (omega arith))
 
-  pub limit_locals : form ≡ F.Chunk → 32 < get_or v.words 1 0 → own_limit (form_number form) vs ≡ some (limit 3)
+  pub limit_locals : form ≡ H.Form F.Chunk → 32 < get_or v.words 1 0 → own_limit (head_number form) vs ≡ some (limit 3)
   unfolding own_limit unless
   limit_locals g h = rw (g, first_value, lt-leb (get_or v.words 1 0) 32 h)
 
-  pub limit_fine : form ≡ F.Chunk → get_or v.words 1 0 ≤ 32 → own_limit (form_number form) vs ≡ none
+  pub limit_fine : form ≡ H.Form F.Chunk → get_or v.words 1 0 ≤ 32 → own_limit (head_number form) vs ≡ none
   unfolding own_limit unless
   limit_fine g h = rw (g, first_value, le-leb (get_or v.words 1 0) 32 h)
 
-  pub limit_none : (form ≡ F.Signature → ⊥) → (form ≡ F.Chunk → ⊥) → own_limit (form_number form) vs ≡ none
+  pub limit_none : (form ≡ H.Form F.Signature → ⊥) → (form ≡ H.Form F.Chunk → ⊥) → own_limit (head_number form) vs ≡ none
   limit_none a b = own_other form vs a b
 
   -- ── Whether the line may stand ────────────────────────────────────────────────────────────
 
   module _ (float p : ℕ) where
-    pub stands_not : within (get_or lows (form_kind (form_number form)) 0) (get_or highs (form_kind (form_number form)) 0) p ≡ false
-        → may_stand float p (form_number form) vs ≡ false
+    pub stands_not : within (get_or lows (form_kind (head_number form)) 0) (get_or highs (form_kind (head_number form)) 0) p ≡ false
+        → may_stand float p (head_number form) vs ≡ false
     unfolding may_stand
     stands_not w = rw w
 
-    module _ (w : within (get_or lows (form_kind (form_number form)) 0) (get_or highs (form_kind (form_number form)) 0) p ≡ true) where
-      says : may_stand float p (form_number form) vs ≡ may_say float (form_number form) vs
+    module _ (w : within (get_or lows (form_kind (head_number form)) 0) (get_or highs (form_kind (head_number form)) 0) p ≡ true) where
+      says : may_stand float p (head_number form) vs ≡ may_say float (head_number form) vs
       unfolding may_stand
       says = rw w
 
       -- I and H
-      pub stands_first : form ≡ F.Module → may_stand float p (form_number form) vs ≡ not (eqb (get_or v.words 6 0) (get_or v.words 7 0))
+      pub stands_first : form ≡ H.Form F.Module → may_stand float p (head_number form) vs ≡ not (eqb (get_or v.words 6 0) (get_or v.words 7 0))
       unfolding may_say
       stands_first g =
-          says ∙ ap (λ (x : Form). may_say float (form_number x) vs) g
+          says ∙ ap (λ (x : Head). may_say float (head_number x) vs) g
           ∙ (rw (← st.here 5 (omega arith), ← st.here 6 (omega arith)))
 
       -- the kinds that an op names
-      pub stands_op : (row : ℕ) → form ≡ F.Op row → may_stand float p (form_number form) vs ≡ has_kinds float (maxima_of row) vs
+      pub stands_op : (row : Row) → form ≡ H.Op row → may_stand float p (head_number form) vs ≡ has_kinds float (maxima_of row.number) vs
       unfolding may_say
       stands_op row g =
-          let d : 11 + row - 11 ≡ row = omega arith in
-          says ∙ ap (λ (x : Form). may_say float (form_number x) vs) g
-          ∙ (rw (may_say, ne_eqb (11 + row) 0 (λ e. absurd (omega arith)), le-leb 11 (11 + row) (omega arith), d))
+          let d : 11 + row.number - 11 ≡ row.number = omega arith in
+          says ∙ ap (λ (x : Head). may_say float (head_number x) vs) g
+          ∙ (rw (may_say, ne_eqb (11 + row.number) 0 (λ e. absurd (omega arith)), le-leb 11 (11 + row.number) (omega arith), d))
 
-      pub stands_other : (form ≡ F.Module → ⊥) → ((row : ℕ) → form ≡ F.Op row → ⊥) → may_stand float p (form_number form) vs ≡ true
+      pub stands_other : (form ≡ H.Form F.Module → ⊥) → ((row : Row) → form ≡ H.Op row → ⊥) → may_stand float p (head_number form) vs ≡ true
       stands_other g h = says ∙ say_other float form vs g h
 
 pub ruleset limit_laws = (limit_many, limit_few, limit_locals, limit_fine, limit_none)
@@ -359,7 +362,7 @@ module _ (f : ℕ) (v : Values) (vs : List ℕ) (st : Stored v vs) where
         get_or-set_other v.words 0 (suc j) (head_word f v.count) 0 (λ x. absurd (omega arith))
         ∙ ap (λ (k : ℕ). get_or v.words k 0) (let z : suc j ≡ j + 1 = omega arith in z) ∙ st.here j h
 
-    words_plain : (m : Module) → tail_words m f ≡ [] → SameWords headed (row_words m f vs)
+    pub words_plain : (m : Module) → tail_words m f ≡ [] → SameWords headed (row_words m f vs)
     unfolding row_words
     words_plain m n zero h = headed_first
     words_plain m n (suc j) h =
@@ -386,7 +389,7 @@ module _ (f : ℕ) (v : Values) (vs : List ℕ) (st : Stored v vs) where
       long_row : length (set headed 2 a) ≡ 19
       long_row = length-set headed 2 a ∙ length-set v.words 0 (head_word f v.count) ∙ st.long
 
-      words_chunk : SameWords filled_row (row_words m f vs)
+      pub words_chunk : SameWords filled_row (row_words m f vs)
       words_chunk j h = at j h ∙ ap (λ (ws : List ℕ). get_or ws j 0) (sym chunk_row)
         where
           past_one : (k : ℕ) → get_or vs (suc k) 0 ≡ 0
@@ -407,34 +410,34 @@ module _ (f : ℕ) (v : Values) (vs : List ℕ) (st : Stored v vs) where
               ∙ get_or-set_other headed 2 (suc (suc (suc (suc j)))) a 0 (λ x. absurd (omega arith))
               ∙ headed_other (suc (suc (suc j))) (omega arith) ∙ past_one (suc (suc j))
 
-tail_none : (m : Module) (form : Form) → (form ≡ F.Chunk → ⊥) → tail_words m (form_number form) ≡ []
+tail_none : (m : Module) (form : Head) → (form ≡ H.Form F.Chunk → ⊥) → tail_words m (head_number form) ≡ []
 unfolding tail_words
-tail_none m F.Module n = refl
-tail_none m F.SharedSlot n = refl
-tail_none m F.PrivateSlot n = refl
-tail_none m F.Shared n = refl
-tail_none m F.Private n = refl
-tail_none m F.Enum n = refl
-tail_none m F.Native n = refl
-tail_none m F.Signature n = refl
-tail_none m F.Chunk n = absurd (n refl)
-tail_none m F.Constant n = refl
-tail_none m F.Close n = refl
-tail_none m (F.Op row) n = rw (tail_words, ne_eqb (11 + row) 8 (λ e. absurd (omega arith)))
+tail_none m (H.Form F.Module) n = refl
+tail_none m (H.Form F.SharedSlot) n = refl
+tail_none m (H.Form F.PrivateSlot) n = refl
+tail_none m (H.Form F.Shared) n = refl
+tail_none m (H.Form F.Private) n = refl
+tail_none m (H.Form F.Enum) n = refl
+tail_none m (H.Form F.Native) n = refl
+tail_none m (H.Form F.Signature) n = refl
+tail_none m (H.Form F.Chunk) n = absurd (n refl)
+tail_none m (H.Form F.Constant) n = refl
+tail_none m (H.Form F.Close) n = refl
+tail_none m (H.Op row) n = rw (tail_words, ne_eqb (11 + row.number) 8 (λ e. absurd (omega arith)))
 
 -- the words as the code writes them
-module _ (m : Module) (form : Form) (v : Values) (vs : List ℕ) (l : Line) (st : Stored v vs) (fit : Fits l (form_number form) vs) (own : own_limit (form_number form) vs ≡ none)
-    (head : ℕ) (e : head ≡ head_word (form_number form) v.count) where
-  pub row_plain : (form ≡ F.Chunk → ⊥) → SameWords (set v.words 0 head) (row_words m (form_number form) vs)
+module _ (m : Module) (form : Head) (v : Values) (vs : List ℕ) (l : Line) (st : Stored v vs) (fit : Fits l (head_number form) vs) (own : own_limit (head_number form) vs ≡ none)
+    (head : ℕ) (e : head ≡ head_word (head_number form) v.count) where
+  pub row_plain : (form ≡ H.Form F.Chunk → ⊥) → SameWords (set v.words 0 head) (row_words m (head_number form) vs)
   row_plain n =
-      subst (λ (x : ℕ). SameWords (set v.words 0 x) (row_words m (form_number form) vs)) (sym e)
-      (words_plain (form_number form) v vs st l fit own m (tail_none m form n))
+      subst (λ (x : ℕ). SameWords (set v.words 0 x) (row_words m (head_number form) vs)) (sym e)
+      (words_plain (head_number form) v vs st l fit own m (tail_none m form n))
 
-  pub row_chunk : form ≡ F.Chunk → (a b : ℕ) → a ≡ length (all_consts m.chunks) → b ≡ length (all_ops m.chunks)
-      → SameWords (set (set (set v.words 0 head) 2 a) 3 b) (row_words m (form_number form) vs)
+  pub row_chunk : form ≡ H.Form F.Chunk → (a b : ℕ) → a ≡ length (all_consts m.chunks) → b ≡ length (all_ops m.chunks)
+      → SameWords (set (set (set v.words 0 head) 2 a) 3 b) (row_words m (head_number form) vs)
   row_chunk g a b p q =
-      subst (λ (x : ℕ). SameWords (set (set (set v.words 0 x) 2 a) 3 b) (row_words m (form_number form) vs)) (sym e)
-      (words_chunk (form_number form) v vs st l fit own (ap form_number g) m a b p q)
+      subst (λ (x : ℕ). SameWords (set (set (set v.words 0 x) 2 a) 3 b) (row_words m (head_number form) vs)) (sym e)
+      (words_chunk (head_number form) v vs st l fit own (ap head_number g) m a b p q)
 
 -- ── The header already read ───────────────────────────────────────────────────────────────
 
@@ -583,12 +586,12 @@ module _ (n : ℕ) (q : Reader) (s : Bytes) where
               )
 
 -- The same as the code asks it: b says whether the line may stand.
-module _ (n : ℕ) (q : Reader) (s : Bytes) (place : Place) (t : List ℕ) (form : Form) (v : Values)
-    (is : (l : Line) × (vs : List ℕ) × (read_line s ≡ some l) × Fits l (form_number form) vs × Stored v vs)
+module _ (n : ℕ) (q : Reader) (s : Bytes) (place : Place) (t : List ℕ) (form : Head) (v : Values)
+    (is : (l : Line) × (vs : List ℕ) × (read_line s ≡ some l) × Fits l (head_number form) vs × Stored v vs)
     (p : q.place ≡ place_number place) (held : Held t (lists q)) (sound : Sound q) (float : ℕ) (same : float ≡ (table_header t).float)
-    (b : Bool) (may : (vs : List ℕ) → Stored v vs → b ≡ may_stand float (place_number place) (form_number form) vs) where
+    (b : Bool) (may : (vs : List ℕ) → Stored v vs → b ≡ may_stand float (place_number place) (head_number form) vs) where
   abbrev f : ℕ
-  f = form_number form
+  f = head_number form
 
   said : (d : Bool) → b ≡ d → may_stand q.so_far.header.float q.place f is.1 ≡ d
   said d g = stood t q held (place_number place) float f is.1 b d p same (may is.1 is.4) g
@@ -630,3 +633,53 @@ module _ (n : ℕ) (q : Reader) (s : Bytes) (place : Place) (t : List ℕ) (form
 pub kind_op : (f : ℕ) → 11 ≤ f → form_kind f ≡ 9
 unfolding form_kind
 kind_op f h = get_or-eq_default kinds 9 {n = f} h
+
+-- ── Tables of kinds and places ────────────────────────────────────────────────────────────
+
+pub kind-listed : (f : ℕ) → f < 11 → (get_or kinds f 0 ≡ form_kind f) × (get_or kinds f 0 < 11)
+unfolding form_kind all_below
+kind-listed f h =
+    let t : T (eqb (get_or kinds f 0) (get_or kinds f 9) && ltb (get_or kinds f 0) 11) =
+    at_each 11 (λ i. eqb (get_or kinds i 0) (get_or kinds i 9) && ltb (get_or kinds i 0) 11) tt f h in (
+      eqb→eq (get_or kinds f 0) (get_or kinds f 9) (and_l (eqb (get_or kinds f 0) (get_or kinds f 9)) _ t),
+      ltb→lt (get_or kinds f 0) 11 (and_r (eqb (get_or kinds f 0) (get_or kinds f 9)) _ t),
+    )
+
+module _ (k p : ℕ) where
+  pub after_chunk : k ≡ 10 → 8 ≤ p → 7 ≡ place_after k p
+  unfolding place_after choose
+  after_chunk e h = rw (e, le-leb 8 p h)
+
+  pub after_module : k ≡ 10 → p < 8 → 10 ≡ place_after k p
+  unfolding place_after choose
+  after_module e h = rw (e, lt-leb 8 p h)
+
+  pub after_row : (k ≡ 10 → ⊥) → get_or nexts k 0 ≡ place_after k p
+  unfolding place_after choose
+  after_row n = rw (ne_eqb k 10 n)
+
+module _ (a b p : ℕ) where
+  pub before_low : p < a → false ≡ within a b p
+  unfolding within
+  before_low h = rw (lt-leb a p h)
+
+  pub from_low : a ≤ p → leb p b ≡ within a b p
+  unfolding within
+  from_low h = rw (le-leb a p h)
+
+module _ (f n : ℕ) where
+  pub head_op : 11 ≤ f → f - 11 ≡ head_word f n
+  unfolding head_word choose
+  head_op h = rw (le-leb 11 f h)
+
+  pub head_shared : f ≡ 1 → 0 ≡ head_word f n
+  unfolding head_word choose
+  head_shared e = rw e
+
+  pub head_private : f ≡ 2 → 1 ≡ head_word f n
+  unfolding head_word choose
+  head_private e = rw e
+
+  pub head_count : f < 11 → (f ≡ 1 → ⊥) → (f ≡ 2 → ⊥) → n ≡ head_word f n
+  unfolding head_word choose
+  head_count h a b = rw (lt-leb 11 f h, ne_eqb f 1 a, ne_eqb f 2 b)

@@ -1,11 +1,11 @@
 // The forms of lines.
-ghost use Rattle.std.specs.Prelude.{◌≡◌, ◌++◌, ◌<◌, [], get_or, MatchOption};
+ghost use Rattle.std.specs.Prelude.{◌≡◌, ◌++◌, [], get_or};
 ghost use Rattle.definition.specs.Read.{line_forms};
 ghost use Rattle.theorems.specs.Keys.{keys};
 ghost use Rattle.listing.specs.Scan.{form_codes};
-ghost use Rattle.listing.specs.Forms.{form_kind, form_number};
+ghost use Rattle.listing.specs.Forms.{form_number};
 
-// What a line says; of an op the row of its name.
+// The forms of all lines but ops.
 #[derive(Clone, Copy)]
 pub enum Form {
     Module,
@@ -19,10 +19,8 @@ pub enum Form {
     Chunk,
     Constant,
     Close,
-    Op(usize),
 }
 
-// The forms of all lines but ops.
 pub static LINES: [Form; 11] = [
     Form::Module,
     Form::SharedSlot,
@@ -38,7 +36,7 @@ pub static LINES: [Form; 11] = [
 ];
 
 impl Form {
-    // The text that a line begins with. That of an op hangs on its name.
+    // The text that a line begins with.
     #[tactic(auto, unfolding(theorems::specs::Keys::keys, theorems::specs::Keys::key, definition::specs::Read::line_forms, definition::specs::Format::form, definition::specs::Format::bytes))]
     pub fn text(self) -> &'static [u8]
         ensures { result.now ≡ get_or (keys line_forms) (form_number self) [] }
@@ -55,7 +53,6 @@ impl Form {
             Form::Chunk => b"(chunk",
             Form::Constant => b"(const",
             Form::Close => b")",
-            Form::Op(_) => b"",
         }
     }
 
@@ -74,26 +71,6 @@ impl Form {
             Form::Chunk => b"\x81",
             Form::Constant => b"\x85)",
             _ => b"",
-        }
-    }
-
-    // The table in which a line stands; the closing line stands in none.
-    #[tactic(auto, using(crate::specs::Step::kind_op), unfolding(crate::specs::Forms::form_kind))]
-    pub(crate) fn table(self) -> Option<usize>
-        ensures { MatchOption result (form_kind (form_number self) ≡ 10) (λ k. (k ≡ form_kind (form_number self)) × (k < 10)) }
-    {
-        match self {
-            Form::Module => Some(bytecode::HEADER),
-            Form::SharedSlot | Form::PrivateSlot => Some(bytecode::SLOTS),
-            Form::Shared => Some(bytecode::SHARED),
-            Form::Private => Some(bytecode::PRIVATE),
-            Form::Enum => Some(bytecode::ENUMS),
-            Form::Native => Some(bytecode::NATIVES),
-            Form::Signature => Some(bytecode::SIGNATURES),
-            Form::Chunk => Some(bytecode::CHUNKS),
-            Form::Constant => Some(bytecode::CONSTANTS),
-            Form::Op(_) => Some(bytecode::INSTRUCTIONS),
-            Form::Close => None,
         }
     }
 }

@@ -1,25 +1,24 @@
 // Reads a listing into the tables, line by line, each by the form whose text it begins with.
 #![tactic(auto)]
 
-ghost use Rattle.std.specs.Prelude.{◌≡◌, List, ◌∷◌, [], length, drop, get_or, ℕ, ◌+◌, ◌*◌, ◌-◌, ◌<◌, ◌≤◌, ◌&&◌, eqb};
-ghost use Rattle.std.proofs.Math.Option.{none};
+ghost use Rattle.std.specs.Prelude.{◌≡◌, List, [], length, ℕ, ◌+◌, ◌*◌, ◌-◌, ◌<◌, ◌≤◌, ◌&&◌, eqb};
 ghost use Rattle.definition.specs.Format.{digits_from, begins_number, number_at, numbers_at};
 ghost use Rattle.definition.specs.Shapes.{is_lacking};
 ghost use Rattle.theorems.specs.KindOf.{has_kinds};
 ghost use Rattle.bytecode.specs.Meaning.{maxima_of};
 ghost use Rattle.listing.specs.Scan.{admitted, shape_word, max_code, scan};
 ghost use Rattle.definition.specs.Read.{line_forms, read_line};
-ghost use Rattle.definition.specs.Read.{Line, Reader, at_start, next_line};
+ghost use Rattle.definition.specs.Read.{Reader, at_start, next_line};
 ghost use Rattle.listing.specs.Reads.{ReadIs, FirstLine, read_all};
 ghost use Rattle.listing.specs.Answer.{result_of, LeftIn};
 ghost use Rattle.definition.specs.Read.{read as read_listing};
-ghost use Rattle.definition.specs.Module.{Module, all_consts, all_ops};
+ghost use Rattle.definition.specs.Module.{Module};
 ghost use Rattle.bytecode.specs.Tables.{size};
 ghost use Rattle.bytecode.specs.Held.{Held, lists, Sound};
-ghost use Rattle.listing.specs.Forms.{Fits, form_number, place_number, may_stand, own_limit, head_word, row_words};
+ghost use Rattle.listing.specs.Forms.{head_number, place_number, may_stand, own_limit, head_word, row_words};
 ghost use Rattle.listing.specs.Step.{StepIs, RowIs, limit_of};
 ghost use Rattle.listing.specs.OpLines.{name_ends, name_of, named_line};
-ghost use Rattle.listing.specs.Find.{Formed, Entered, whole_line};
+ghost use Rattle.listing.specs.Find.{Entered, whole_line};
 ghost use Rattle.listing.specs.Stored.{Stored};
 ghost use Rattle.listing.specs.Rows.{Rowed, shapes_over, value_at};
 ghost use Rattle.listing.specs.Shape.{end_at, top_at, scalar_at, flat_at};
@@ -27,8 +26,9 @@ ghost use Rattle.listing.specs.Num.{number_of, at_most};
 
 use answer::Refusal;
 use answer::limit::Limit;
-use bytecode::ops;
-use entry::{Entry, Values};
+use bytecode::ops::{self, Row};
+use bytecode::{MOST_8, MOST_16, MOST_32, wire};
+use entry::{Entry, Head, Values};
 use form::Form;
 use place::Place;
 
@@ -39,7 +39,7 @@ pub mod sort;
 pub mod words;
 
 // The bytes of the longest listing.
-const MOST_BYTES: usize = 65536;
+pub const MOST_BYTES: usize = 65536;
 
 // The most values of a line: the two shapes and 16 parameters of a signature; and the most LOCALS.
 pub const MOST_VALUES: usize = 18;
@@ -49,14 +49,7 @@ pub const MOST_LOCALS: u64 = 32;
 // The largest K: an operand that may be so much is a kind of scalar.
 const MOST_KIND: u64 = 7;
 
-// The largest number of so many bits.
-const MOST_8: u64 = u8::MAX as u64;
-
-const MOST_16: u64 = u16::MAX as u64;
-
-const MOST_32: u64 = u32::MAX as u64;
-
-// The numbers that a code admits.
+// The numbers that a code admits, found by the code: it is a byte of a form's constant table, as `sort` says.
 #[tactic(auto, unfolding(crate::specs::Scan::admitted, definition::specs::Basics::is_member, definition::specs::Basics::choose))]
 pub fn admits(code: u8, n: u64) -> bool
     ensures { result ≡ admitted code n }
@@ -82,7 +75,8 @@ fn begins_number(bytes: &[u8]) -> bool
     matches!(bytes, [b'0'..=b'9', ..]) && !matches!(bytes, [b'0', b'0'..=b'9', ..])
 }
 
-// The number that the digits at the front give, if it has at most 32 bits, and what follows them.
+// The number that the digits at the front give, if it has at most 32 bits, and what follows them. std's `parse` takes a sign and leading zeros, and
+// wants to be told where the digits end.
 #[tactic(auto, using(crate::specs::Num::digit_laws))]
 fn digits(mut bytes: &[u8]) -> Option<(u64, &[u8])>
     ensures { number_of result ≡ at_most 4294967295 (digits_from 0 bytes.entry.now) }
@@ -124,7 +118,7 @@ fn closed(word: u64, bytes: &[u8]) -> Option<(u64, &[u8])>
 fn shape_top(bytes: &[u8]) -> Option<(u64, &[u8])>
     ensures { number_of result ≡ top_at bytes.now }
 {
-    Some((0, bytes.strip_prefix(&words::TOP)?))
+    Some((wire::TOP, bytes.strip_prefix(&words::TOP)?))
 }
 
 #[tactic(auto, using(crate::proofs::Texts::texts, crate::specs::Shape::scalar_laws))]
@@ -133,7 +127,7 @@ fn shape_scalar(bytes: &[u8]) -> Option<(u64, &[u8])>
 {
     let bytes = bytes.strip_prefix(&words::SCALAR)?;
     let (kind, bytes) = number(bytes, sort::BITS_8)?;
-    closed(1 + 4 * kind, bytes)
+    closed(wire::SCALAR + wire::KIND * kind, bytes)
 }
 
 #[tactic(auto, using(crate::proofs::Texts::texts, crate::specs::Shape::flat_laws))]
@@ -143,7 +137,7 @@ fn shape_flat(bytes: &[u8]) -> Option<(u64, &[u8])>
     let bytes = bytes.strip_prefix(&words::FLAT)?;
     let (kind, bytes) = number(bytes, sort::BITS_8)?;
     let (size, bytes) = number(bytes, sort::BITS_32)?;
-    closed(2 + 4 * kind + 1024 * size, bytes)
+    closed(wire::FLAT + wire::KIND * kind + wire::SIZE * size, bytes)
 }
 
 // A shape with the space before it, as its word.
@@ -200,14 +194,17 @@ fn scan<'a>(mut line: &'a [u8], mut codes: &[u8], values: &mut Values) -> Option
 
 // A line that is no op, by the form whose text it begins with.
 #[tactic(auto, using(crate::proofs::Texts::texts, crate::specs::Find::line_laws))]
-fn line_form(line: &[u8], values: &mut Values) -> Option<Form>
-    requires { Stored values.old [] }
-    ensures { Formed (whole_line line_forms line.now) result values.new }
+fn line_entry(line: &[u8]) -> Option<Entry>
+    ensures { Entered (whole_line line_forms line.now) result }
 {
     for form in form::LINES.iter() {
         if let Some(rest) = line.strip_prefix(form.text()) {
-            let rest = scan(rest, form.codes(), values)?;
-            return rest.is_empty().then_some(*form);
+            let mut values = Values::new();
+            let rest = scan(rest, form.codes(), &mut values)?;
+            return rest.is_empty().then_some(Entry {
+                head: Head::Form(*form),
+                values,
+            });
         }
     }
     None
@@ -221,16 +218,12 @@ fn name_ends(bytes: &[u8]) -> bool
     matches!(bytes, [] | [b')', ..] | [b' ', b'0'..=b'9', ..])
 }
 
-#[tactic(auto, using(crate::specs::OpLines::name_laws))]
 fn name_length(bytes: &[u8]) -> usize
     ensures { result ≡ length (name_of bytes.now) }
 {
-    for i in 0..bytes.len() {
-        if name_ends(&bytes[i..]) {
-            return i;
-        }
-    }
-    bytes.len()
+    (0..bytes.len())
+        .find(|i| name_ends(&bytes[*i..]))
+        .unwrap_or(bytes.len())
 }
 
 // The code of the numbers up to a maximum.
@@ -247,21 +240,13 @@ pub fn maximum_code(m: u64) -> u8
     }
 }
 
-// The most operands of an op.
-const MOST_OPERANDS: usize = 3;
-
 // The operands of a row.
 #[tactic(auto, using(crate::specs::OpRead::operand_laws))]
-fn operands<'a>(mut bytes: &'a [u8], row: usize, values: &mut Values) -> Option<&'a [u8]>
-    requires { row < 75 }
-    ensures { Rowed (numbers_at (maxima_of row) bytes.entry.now) values.old result values.new }
+fn operands<'a>(mut bytes: &'a [u8], row: Row, values: &mut Values) -> Option<&'a [u8]>
+    ensures { Rowed (numbers_at (maxima_of row.number) bytes.entry.now) values.old result values.new }
 {
-    for j in 0..MOST_OPERANDS {
-        let most = ops::maximum(row, j);
-        if most == 0 {
-            break;
-        }
-        let (value, rest) = number(bytes, maximum_code(most))?;
+    for most in row.maxima() {
+        let (value, rest) = number(bytes, maximum_code(*most))?;
         values.push(value);
         bytes = rest;
     }
@@ -270,34 +255,28 @@ fn operands<'a>(mut bytes: &'a [u8], row: usize, values: &mut Values) -> Option<
 
 // An op, from its name on, by the row of the name.
 #[tactic(auto, using(crate::specs::OpRead::op_laws))]
-fn op_form(bytes: &[u8], values: &mut Values) -> Option<Form>
-    requires { Stored values.old [] }
-    ensures { Formed (named_line bytes.now) result values.new }
+fn op_entry(bytes: &[u8]) -> Option<Entry>
+    ensures { Entered (named_line bytes.now) result }
 {
     let (name, rest) = bytes.split_at(name_length(bytes));
     let row = ops::find(name)?;
-    let rest = operands(rest, row, values)?;
-    (rest == words::CLOSE.as_slice()).then_some(Form::Op(row))
+    let mut values = Values::new();
+    let rest = operands(rest, row, &mut values)?;
+    (rest == words::CLOSE.as_slice()).then_some(Entry {
+        head: Head::Op(row),
+        values,
+    })
 }
 
-// The form of the line that the bytes say.
-#[tactic(auto, using(crate::proofs::Texts::texts, crate::specs::OpRead::form_laws))]
-fn read_form(line: &[u8], values: &mut Values) -> Option<Form>
-    requires { Stored values.old [] }
-    ensures { Formed (read_line line.now) result values.new }
-{
-    match line.strip_prefix(&words::OP) {
-        Some(rest) => op_form(rest, values),
-        None => line_form(line, values),
-    }
-}
-
+// What the line that the bytes say is.
+#[tactic(auto, using(crate::proofs::Texts::texts, crate::specs::OpRead::entry_laws))]
 fn read_entry(line: &[u8]) -> Option<Entry>
     ensures { Entered (read_line line.now) result }
 {
-    let mut values = Values::new();
-    let form = read_form(line, &mut values)?;
-    Some(Entry { form, values })
+    match line.strip_prefix(&words::OP) {
+        Some(rest) => op_entry(rest),
+        None => line_entry(line),
+    }
 }
 
 // Whether an operand names a kind that a module lacks: it is a kind by the largest number that it may be. No kind has more than 8 bits.
@@ -309,68 +288,65 @@ pub fn names_lacking(float: u8, most: u64, value: u64) -> bool
 }
 
 // Whether no operand of a row names a kind that a module lacks. One with floats lacks none, and is spared the loop.
-fn has_kinds(float: u8, row: usize, values: &Values) -> bool
-    requires { row < 75 }
-    ensures { ((vs : List ℕ) → Stored values.now vs → result ≡ has_kinds float (maxima_of row) vs) }
+fn has_kinds(float: u8, row: Row, values: &Values) -> bool
+    ensures { ((vs : List ℕ) → Stored values.now vs → result ≡ has_kinds float (maxima_of row.number) vs) }
 {
     float != 0
-        || (0..MOST_OPERANDS).all(|j| !names_lacking(
-            float,
-            ops::maximum(row, j),
-            values.words[j + 1],
-        ))
+        || row
+            .maxima()
+            .iter()
+            .zip(&values.words[1..])
+            .all(|(most, value)| !names_lacking(float, *most, *value))
 }
-
-// The values of the first line that are the trap codes I and H.
-const INDEX_TRAP: usize = 6;
-
-const HOST_TRAP: usize = 7;
 
 // Whether a line may follow at a place. I and H of the first line are unequal, and an op names no kind that the module lacks.
 #[tactic(auto, using(crate::specs::Step::stand_laws))]
 fn may_stand(float: u8, place: Place, entry: &Entry) -> bool
-    ensures { ((vs : List ℕ) → Stored entry.now.values vs → result ≡ may_stand float (place_number place) (form_number entry.now.form) vs) }
+    ensures { ((vs : List ℕ) → Stored entry.now.values vs → result ≡ may_stand float (place_number place) (head_number entry.now.head) vs) }
 {
-    place.allows(entry.form)
-        && match entry.form {
-            Form::Module => entry.values.words[INDEX_TRAP] != entry.values.words[HOST_TRAP],
-            Form::Op(row) => has_kinds(float, row, &entry.values),
-            _ => true,
+    place.allows(entry.head)
+        && match entry.head {
+            Head::Form(Form::Module) => entry.values.words[bytecode::INDEX_TRAP]
+                != entry.values.words[bytecode::HOST_TRAP],
+            Head::Op(row) => has_kinds(float, row, &entry.values),
+            Head::Form(_) => true,
         }
 }
 
 // The limit that a line meets by itself: a signature of more than 16 parameters, or LOCALS over 32.
 #[tactic(auto, using(crate::specs::Step::limit_laws))]
 fn own_limit(entry: &Entry) -> Option<Limit>
-    ensures { ((vs : List ℕ) → Stored entry.now.values vs → own_limit (form_number entry.now.form) vs ≡ limit_of result) }
+    ensures { ((vs : List ℕ) → Stored entry.now.values vs → own_limit (head_number entry.now.head) vs ≡ limit_of result) }
 {
-    match entry.form {
-        Form::Signature if MOST_VALUES < entry.values.count => Some(Limit::Table),
-        Form::Chunk if MOST_LOCALS < entry.values.words[bytecode::LOCALS] => Some(Limit::Locals),
+    match entry.head {
+        Head::Form(Form::Signature) if MOST_VALUES < entry.values.count => Some(Limit::Table),
+        Head::Form(Form::Chunk) if MOST_LOCALS < entry.values.words[bytecode::LOCALS] => Some(
+            Limit::Locals,
+        ),
         _ => None,
     }
 }
 
 // The first word of a line's row: 0 or 1 for a slot, the op's number, else how many values follow.
 #[tactic(auto, unfolding(crate::specs::Forms::head_word, definition::specs::Basics::choose))]
-fn head_word(form: Form, count: usize) -> u64
-    ensures { result ≡ head_word (form_number form) count }
+fn head_word(head: Head, count: usize) -> u64
+    ensures { result ≡ head_word (head_number head) count }
 {
-    match form {
-        Form::Op(row) => row as u64,
-        Form::SharedSlot => 0,
-        Form::PrivateSlot => 1,
-        _ => count as u64,
+    match head {
+        Head::Op(row) => row.number as u64,
+        Head::Form(Form::SharedSlot) => 0,
+        Head::Form(Form::PrivateSlot) => 1,
+        Head::Form(_) => count as u64,
     }
 }
 
 // The words of a line's row; a chunk's row says besides how many constants and instructions come before it.
 fn row_words(entry: &Entry, constants: u64, instructions: u64) -> [u64; bytecode::WORDS]
-    ensures { RowIs entry.now.form entry.now.values constants instructions result }
+    ensures { RowIs entry.now.head entry.now.values constants instructions result }
 {
     let mut words = entry.values.words;
-    words[0] = head_word(entry.form, entry.values.count);
-    if let Form::Chunk = entry.form {
+    words[0] = head_word(entry.head, entry.values.count);
+    if let Head::Form(Form::Chunk) = entry.head {
         words[bytecode::FIRST_CONSTANT] = constants;
         words[bytecode::FIRST_CODE] = instructions;
     }
@@ -383,14 +359,12 @@ fn one_line(t: &mut [u64], lines: u64, place: Place, line: &[u8]) -> Result<Plac
     ensures step { (q : Reader) → q.place ≡ place_number place → Held t.old (lists q) → Sound q → StepIs (next_line lines q line.now) result t.new }
     ensures long { length t.new ≡ size }
 {
-    let Some(entry) = read_entry(line) else {
-        return Err(Refusal::CannotFollow(lines));
-    };
+    let entry = read_entry(line).ok_or(Refusal::CannotFollow(lines))?;
     if !may_stand(bytecode::float_of(t), place, &entry) {
         return Err(Refusal::CannotFollow(lines));
     }
-    let next = place.after(entry.form);
-    let Some(table) = entry.form.table() else {
+    let next = place.after(entry.head);
+    let Some(table) = entry.head.table() else {
         return Ok(next);
     };
     if bytecode::cap_of(table) <= t[table] {
@@ -405,7 +379,7 @@ fn one_line(t: &mut [u64], lines: u64, place: Place, line: &[u8]) -> Result<Plac
 }
 
 // The first line, and what follows its LF, if an LF ends it.
-fn first_line(bytes: &[u8]) -> Option<(&[u8], &[u8])>
+pub fn first_line(bytes: &[u8]) -> Option<(&[u8], &[u8])>
     ensures { FirstLine bytes.now result }
 {
     let end = bytes.iter().position(|byte| *byte == b'\n')?;
@@ -421,9 +395,7 @@ fn read_lines(mut bytes: &[u8], t: &mut [u64]) -> Result<(), Refusal>
     let mut place = Place::Start;
     let mut lines: u64 = 0;
     while !bytes.is_empty() {
-        let Some((line, rest)) = first_line(bytes) else {
-            return Err(Refusal::CannotFollow(lines));
-        };
+        let (line, rest) = first_line(bytes).ok_or(Refusal::CannotFollow(lines))?;
         place = one_line(t, lines, place, line)?;
         lines += 1;
         bytes = rest;

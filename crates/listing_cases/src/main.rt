@@ -10,7 +10,7 @@ use std::io::Write;
 
 const ROOM: usize = 70000;
 
-// A listing, as far as there is room for it.
+// A listing, as far as there is room for it. Bytes and their number, and no vector of the kit's `arrayvec`: this stands on std alone (README).
 #[derive(Drop)]
 struct Listing {
     bytes: [u8; ROOM],
@@ -48,7 +48,7 @@ impl Listing {
 // A count that has five digits takes no more of them.
 const FOUR_DIGITS: u32 = 9999;
 
-// The COUNT and the TEXT of a line `*COUNT TEXT`. In a count that is no number what is no digit is 0.
+// The COUNT and the TEXT of a line `*COUNT TEXT`. By hand: std's `parse` takes numbers alone, and in a count that is none what is no digit is 0.
 fn repeated(line: &[u8]) -> Option<(u32, &[u8])> {
     let line = line.strip_prefix(b"*")?;
     let end = line.iter().position(|byte| *byte == b' ')?;
@@ -83,22 +83,12 @@ fn report(rt: &impl Print, listing: &[u8]) -> io::Result<()> {
     }
 }
 
-// The first line, and what follows its LF.
-fn first_line(bytes: &[u8]) -> (&[u8], &[u8])
-    ensures { 0 < length bytes.now → length result.1.now < length bytes.now }
-{
-    match bytes.iter().position(|byte| *byte == b'\n') {
-        Some(end) => (&bytes[..end], &bytes[end + 1..]),
-        None => (bytes, b""),
-    }
-}
-
 // The lines up to the next name. Answers what is left.
 fn read_lines<'a>(mut input: &'a [u8], listing: &mut Listing) -> &'a [u8]
     ensures { length result.now ≤ length input.entry.now }
 {
     while !input.is_empty() && !input.starts_with(b"=") {
-        let (line, rest) = first_line(input);
+        let (line, rest) = listing::first_line(input).unwrap_or((input, b""));
         listing.put_input(line);
         input = rest;
     }
@@ -111,7 +101,7 @@ fn run(rt: &impl Print, mut input: &[u8]) -> io::Result<()> {
         length: 0,
     };
     while !input.is_empty() {
-        let (name, rest) = first_line(input);
+        let (name, rest) = listing::first_line(input).unwrap_or((input, b""));
         io::writer(rt).write_all(name)?;
         print!(rt; ": ")?;
         listing.length = 0;

@@ -1,7 +1,6 @@
 ghost use Rattle.std.specs.Prelude.{◌+◌, ◌≤◌};
 
 use crate::part::Part;
-use bytecode;
 
 // The instructions of a chunk: rows of the instruction table, of which there are at most 4,096.
 #[derive(Clone, Copy)]
@@ -14,7 +13,6 @@ pub(crate) struct Code<'a> {
 
 impl<'a> Code<'a> {
     ghost use Rattle.std.specs.Prelude.{◌≡◌, ◌<◌};
-    ghost use Rattle.bytecode.specs.Meaning.{chunk_of};
     ghost use Rattle.nesting.specs.Codes.{part_in, CodeIs};
 
     pub(crate) fn of_chunk(tables: &'a [u64], k: usize) -> Code<'a>

@@ -19,7 +19,7 @@ pub(crate) enum Part {
 }
 
 impl Part {
-    // BreakIf has the part of Break.
+    // BreakIf has the part of Break. No `From`: it asks for a code of the table, and `from` may ask nothing.
     pub(crate) fn of(instr: Instr) -> Part
         requires { (instr.code < 75) × (instr.a ≤ get_or (maxima_of instr.code) 0 0) }
         ensures { result ≡ part_of (control (any_instr_of instr)) }

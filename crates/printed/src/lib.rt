@@ -12,8 +12,6 @@ ghost use Rattle.text_out.specs.Text.{with_text};
 ghost use Rattle.printed.specs.Texts.{header, line, checked, accepted_text};
 ghost use Rattle.printed.specs.Writes.{Holds};
 
-use bytecode;
-use sheets;
 use text_out::Text;
 
 // A chunk's number has at most 2 bytes, an index 4, a height 3, the mark 5, and 4 are between and after them.
@@ -88,6 +86,7 @@ impl Sheets<'_> {
         requires { base + n < 2 ^ 64 }
         ensures { text.new ≡ with_text text.old (print_ops (checked self.now) k base 0 n) }
     {
+        // By number: a sheet may be too short, and then says 0.
         for i in 0..n {
             let height = entry(self.heights, base + i);
             let blind = entry(self.blinds, base + i);

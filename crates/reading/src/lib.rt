@@ -14,6 +14,7 @@ pub fn read_full<R: Read>(input: &mut R, buf: &mut [u8]) -> io::Result<usize>
     ensures bytes { IfOk result (λ n. Consumes (R.remaining input.old) (R.remaining input.new) (take n buf.new)) }
     ensures end { IfOk result (λ n. n < length buf.new → IsAtEnd (R.remaining input.new)) }
 {
+    // A `while`: it goes on by what each read gave.
     let mut n = 0;
     while n < buf.len() {
         match input.read(&mut buf[n..])? {

@@ -7,12 +7,7 @@ ghost use Rattle.std.specs.Prelude.{◌≤◌, IfOk, length};
 use answer::Numbers;
 use std::io::Read;
 use std::{fmt, io};
-
-// The entries of the longest sheet: a listing has no more instructions.
-const SHEET: usize = 4096;
-
-// One byte more than a listing may have.
-const LISTING: usize = 65537;
+use typed_check::{LISTING, SHEET};
 
 // Room for a line, of which the longest has the entries of a sheet.
 const LINE: usize = 4 * SHEET;
@@ -172,7 +167,7 @@ fn is_right<R: Read>(rt: &impl Print, list: &mut List<R>, head: &Head) -> io::Re
     let blinds = &mut blinds[..head.blinds.min(SHEET)];
     let read = reading::read_full(&mut list.input, listing)?;
     let found = Numbers::from(typed_check::typed_check(&listing[..read], heights, blinds));
-    let answer_right = found.count == head.answer.count && found.words == head.answer.words;
+    let answer_right = found == head.answer;
     if !answer_right {
         println!(rt; "call {number}: another answer")?;
     }

@@ -35,4 +35,4 @@ pub record Within (i : Instr) : Type 0 where
 
 -- The examination of an instruction of the chunk under check, and the state after it, are the definition's.
 pub record Examined (x : Context) (i : Instr) (ip floor : ℕ) (s : State) (r : Outcome Unit Refusal) (u : State) : Type 0 where
-  pub result : result_of x.locals r u ≡ examine (chunk_in x) ip floor (any_instr_of i) (state_of x.locals s)
+  pub result : result_of x.locals.count r u ≡ examine (chunk_in x) ip floor (any_instr_of i) (state_of x.locals.count s)

@@ -74,7 +74,7 @@ pub(crate) fn get_flat(
     kind: u8,
     ip: usize,
 ) -> Result<Moves, Refusal>
-    ensures { (o : Owner) → Rules (chunk_in x.now) ip (GetFlat o (Flat offset kind)) (state_of x.now.locals s.now.state) result }
+    ensures { (o : Owner) → Rules (chunk_in x.now) ip (GetFlat o (Flat offset kind)) (state_of x.now.locals.count s.now.state) result }
 {
     let v = s.operand(0);
     check_flat(&v, offset, x.widths.size_in_bytes(kind), ip)?;
@@ -156,7 +156,7 @@ fn bounds_outcome(kind: u8) -> u8
 
 // GetIndex Flat; the array is under the index number.
 pub(crate) fn get_index(x: &Context, s: &Frame, kind: u8, ip: usize) -> Result<Moves, Refusal>
-    ensures { Rules (chunk_in x.now) ip (GetIndex (ElemFlat kind)) (state_of x.now.locals s.now.state) result }
+    ensures { Rules (chunk_in x.now) ip (GetIndex (ElemFlat kind)) (state_of x.now.locals.count s.now.state) result }
 {
     let v = s.operand(1);
     let element = x.widths.size_in_bytes(kind);

@@ -1,5 +1,5 @@
-// The rule of one instruction, from the values that it looks at: its own tests in the Rust's order, and what it takes and pushes.
-#![tactic(auto, using(crate::proofs::Tests::enum_decided, crate::proofs::Tests::sizes_length, crate::proofs::Tests::few_places, crate::proofs::Tests::many_places), unfolding(answer::specs::Answer::refusal, answer::specs::Answer::fields, definition::specs::Basics::first, definition::specs::Basics::unless, definition::specs::Tests::is_unknown, definition::specs::Tests::fits_declared, definition::specs::Walk::floor_test, definition::specs::Walk::need_test, definition::specs::Walk::height_test, bytecode::specs::Parts::declared_shape, shapes::specs::Model::shape_of, shapes::specs::Text::Means))]
+// The rule of one instruction on a lent state: its own tests in the Rust's order, and what it takes and pushes.
+#![tactic(auto, using(crate::proofs::Tests::enum_decided, crate::proofs::Tests::sizes_length, crate::proofs::Tests::few_places, crate::proofs::Tests::many_places), unfolding(answer::specs::Answer::refusal, answer::specs::Answer::fields, definition::specs::Basics::first, definition::specs::Basics::unless, definition::specs::Tests::is_unknown, definition::specs::Tests::fits_declared, definition::specs::Walk::floor_test, definition::specs::Walk::need_test, definition::specs::Walk::height_test, shapes::specs::Model::shape_of, shapes::specs::Text::Means))]
 
 ghost use Rattle.std.specs.Prelude.{◌≡◌, ◌≢◌, List, ℕ, ◌^◌, ◌≤◌, ◌<◌, OnOk};
 ghost use Rattle.std.proofs.Math.Option.{Option};
@@ -8,9 +8,9 @@ ghost use Rattle.definition.specs.Tests.{is_unknown, fits_declared, enum_test};
 ghost use Rattle.definition.specs.Walk.{floor_test, need_test};
 ghost use Rattle.bytecode.specs.Meaning.{enum_sizes_of};
 ghost use Rattle.bytecode.specs.declared.code.TheConstants.{SET_LOCAL, CALL, NEW_COMPOSITE_FLAT};
-ghost use Rattle.bytecode.specs.Parts.{declared_shape, any_instr_of, EffectIs};
+ghost use Rattle.bytecode.specs.Parts.{any_instr_of, EffectIs};
 ghost use Rattle.shapes.specs.Text.{Means};
-ghost use Rattle.shapes.specs.Model.{value_of, plain_of, shape_of};
+ghost use Rattle.shapes.specs.Model.{shape_of};
 ghost use Rattle.frame.specs.Model.{state_of};
 ghost use Rattle.answer.specs.Answer.{refusal};
 ghost use Rattle.rules.specs.Answers.{Within, chunk_in};
@@ -22,9 +22,9 @@ mod quiet;
 
 use answer::Refusal;
 use answer::limit::Limit;
-use bytecode::{Effect, Instr, WireShape, code};
+use bytecode::{Effect, Instr, code};
 pub use chunk::Context;
-use frame::{Frame, OPERANDS};
+use frame::{Floor, Frame, OPERANDS};
 use shapes::{Built, Shape, Value};
 
 // ---- what a rule says
@@ -51,26 +51,6 @@ fn passing(take: usize, value: Value, times: u8, ints: u8) -> Result<Moves, Refu
         times,
         ints,
     })
-}
-
-// ---- declared shapes
-
-// A declared shape, as the walk holds it. No `From`, since both types are other crates'.
-pub fn from_wire(w: WireShape) -> Shape
-    ensures { plain_of result ≡ declared_shape w }
-{
-    match w {
-        WireShape::Unknown => Shape::Unknown,
-        WireShape::Scalar(kind) => Shape::Scalar(kind),
-        WireShape::Composite(kind, size) => Shape::Composite(kind, size),
-    }
-}
-
-// A value of a declared shape.
-pub fn wire_value(w: WireShape) -> Value
-    ensures { value_of result ≡ declared_shape w }
-{
-    Value::from(from_wire(w))
 }
 
 // ---- new composites
@@ -122,7 +102,7 @@ pub fn rule_by(x: &Context, s: &Frame, i: Instr, e: Effect, ip: usize) -> Result
     requires within { Within i }
     requires other { (i.code ≢ SET_LOCAL) × (i.code ≢ CALL) × (i.code ≢ NEW_COMPOSITE_FLAT) }
     requires effect { EffectIs i x.now.index_trap x.now.host_trap e }
-    ensures { Rules (chunk_in x.now) ip (any_instr_of i) (state_of x.now.locals s.now.state) result }
+    ensures { Rules (chunk_in x.now) ip (any_instr_of i) (state_of x.now.locals.count s.now.state) result }
 {
     let Instr { code, a, b, c } = i;
     match code {
@@ -149,23 +129,21 @@ pub fn rule_by(x: &Context, s: &Frame, i: Instr, e: Effect, ip: usize) -> Result
 // ---- tests of every instruction
 
 // 12, before every rule: the operands from the floor up are the loop's own.
-fn check_floor(height: usize, need: usize, floor: usize, ip: usize) -> Result<(), Refusal>
-    requires floor { floor ≤ OPERANDS }
-    requires need { need < 2 ^ 32 }
-    ensures { refusal result ≡ floor_test ip floor height need }
+fn check_floor(height: usize, need: usize, floor: Floor, ip: usize) -> Result<(), Refusal>
+    requires { need < 2 ^ 32 }
+    ensures { refusal result ≡ floor_test ip floor.height height need }
 {
-    if floor == 0 || floor + need <= height {
+    if floor.height == 0 || floor.height + need <= height {
         Ok(())
     } else {
-        Err(Refusal::LoopFloorBreach(ip as u64, floor as u64, height as u64, need as u64))
+        Err(Refusal::LoopFloorBreach(ip as u64, floor.height as u64, height as u64, need as u64))
     }
 }
 
 // 12 and 5, before every rule.
-pub fn check_need(height: usize, need: usize, floor: usize, ip: usize) -> Result<(), Refusal>
-    requires floor { floor ≤ OPERANDS }
-    requires need { need < 2 ^ 32 }
-    ensures tests { refusal result ≡ first (floor_test ip floor height need) (need_test ip height need) }
+pub fn check_need(height: usize, need: usize, floor: Floor, ip: usize) -> Result<(), Refusal>
+    requires { need < 2 ^ 32 }
+    ensures tests { refusal result ≡ first (floor_test ip floor.height height need) (need_test ip height need) }
     ensures ok { OnOk result (need ≤ height) }
 {
     check_floor(height, need, floor, ip)?;

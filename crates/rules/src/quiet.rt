@@ -1,4 +1,4 @@
-// The rules of names without a test of their own.
+// The rules of names without a test of their own. A function for each name, since each promises that name's rule.
 #![tactic(auto, using(crate::proofs::Tests::flagged, bytecode::specs::Meaning::chunk_sig, bytecode::specs::Meaning::chunk_natives, shapes::proofs::Lists::get_d_up, frame::proofs::Stores::get_past), unfolding(answer::specs::Answer::refusal, definition::specs::Basics::first, definition::specs::Shapes::if_same, definition::specs::Tests::reading, definition::specs::Tests::reading_test, definition::specs::Tests::other_tests, definition::specs::Effects::set_local, definition::specs::Effects::takes, definition::specs::Effects::pushes, definition::specs::Effects::shaped_need, definition::specs::Effects::shaped_pushes, definition::specs::Effects::shape_of, definition::specs::Effects::const_shape, definition::specs::Effects::with_bounds))]
 
 ghost use Rattle.std.specs.Prelude.{◌≡◌, true, ℕ, ◌<◌, get_or, pos, ◌-ℤ◌};
@@ -12,7 +12,7 @@ ghost use Rattle.frame.specs.Model.{state_of, locals_of};
 ghost use Rattle.rules.specs.Answers.{chunk_in};
 ghost use Rattle.rules.specs.Rules.{Rules, is_generic};
 
-use crate::{BOUNDS_OUTCOME, Context, Moves, passing, wire_value};
+use crate::{BOUNDS_OUTCOME, Context, Moves, passing};
 use answer::Refusal;
 use bytecode::Effect;
 use frame::{Frame, OPERANDS};
@@ -69,7 +69,8 @@ pub(crate) fn is_instance() -> Result<Moves, Refusal>
 pub(crate) fn yields(x: &Context) -> Result<Moves, Refusal>
     ensures { (ip : ℕ) (s : AnyState) → Rules (chunk_in x.now) ip (shaped Yield) s result }
 {
-    passing(1, wire_value(bytecode::sig_resume(x.tables, x.chunk)), 1, 0)
+    let value = Value::from(bytecode::sig_resume(x.tables, x.chunk));
+    passing(1, value, 1, 0)
 }
 
 // The bit of a native call's count, above the seven that count, that says that a flag is pushed above the result.
@@ -78,7 +79,7 @@ const FLAG: u32 = 128;
 pub(crate) fn native(x: &Context, k: u32, n: u32) -> Result<Moves, Refusal>
     ensures { (ip : ℕ) (s : AnyState) → Rules (chunk_in x.now) ip (shaped (Native k n)) s result }
 {
-    let value = wire_value(bytecode::native_shape(x.tables, k as usize));
+    let value = Value::from(bytecode::native_shape(x.tables, k as usize));
     passing((n % FLAG) as usize, value, 1, u8::from(n >= FLAG))
 }
 
@@ -100,9 +101,9 @@ pub(crate) fn generic(e: Effect) -> Result<Moves, Refusal>
 
 // A local; one past the last is unknown.
 fn local(x: &Context, s: &Frame, k: usize) -> Value
-    ensures { value_of result ≡ get_or (locals_of x.now.locals s.now.state) k unknown }
+    ensures { value_of result ≡ get_or (locals_of x.now.locals.count s.now.state) k unknown }
 {
-    if k < x.locals {
+    if k < x.locals.count {
         s.state.value_at(OPERANDS + k)
     } else {
         shapes::unknown_value()
@@ -110,7 +111,7 @@ fn local(x: &Context, s: &Frame, k: usize) -> Value
 }
 
 pub(crate) fn get_local(x: &Context, s: &Frame, k: u32) -> Result<Moves, Refusal>
-    ensures { (ip : ℕ) → Rules (chunk_in x.now) ip (shaped (GetLocal k)) (state_of x.now.locals s.now.state) result }
+    ensures { (ip : ℕ) → Rules (chunk_in x.now) ip (shaped (GetLocal k)) (state_of x.now.locals.count s.now.state) result }
 {
     passing(0, local(x, s, k as usize), 1, 0)
 }

@@ -21,7 +21,7 @@ use Rattle.definition.specs.Basics.{saturating_add, is_member}
 use Rattle.definition.specs.Shapes.{Shape as AnyShape, unknown, scalar, composite}
 use Rattle.definition.specs.Instructions.{Chunk}
 use Rattle.definition.specs.Effects.{keep_if, places_within, shift, before_text, built_places, add_known, packed}
-use Rattle.shapes.specs.Text.{Adds, Holds, Means, bytes, own, Took, packed_of}
+use Rattle.shapes.specs.Text.{Adds, HeldAll, Means, bytes, own, Took, packed_of}
 use Rattle.shapes.specs.declared.places.ManyPlaces.{ManyPlaces}
 use Rattle.shapes.specs.declared.places.Places.{Places}
 use Rattle.shapes.specs.Model.{list_of, places_of}
@@ -242,7 +242,7 @@ built_on c at (composite k m none) es os b e f = cc
 built_on c at (composite k m (some o)) es os b e f = rw (some_inj.0 e, some_inj.0 f)
 
 -- all that is added, from the places that are held
-holds_more : (whole done : Result ⊤ ManyPlaces) (held l os after : List ℕ) → Holds whole held l → Adds held os done after → Holds (result_and whole done) after (l ++ os)
+holds_more : (whole done : Result ⊤ ManyPlaces) (held l os after : List ℕ) → HeldAll whole held l → Adds held os done after → HeldAll (result_and whole done) after (l ++ os)
 holds_more (Ok d) (Ok f) held l os after h a = a ∙ ap (λ (z : List ℕ). z ++ os) h
 holds_more (Ok d) (Err m) held l os after h a = subst (λ (z : List ℕ). 16 < length (z ++ os)) h a
 holds_more (Err m) done held l os after h a = omega (arith, length-append l os)
@@ -250,7 +250,7 @@ holds_more (Err m) done held l os after h a = omega (arith, length-append l os)
 -- The places of n elements, i of which are passed: those added, then the rest's from `at` on.
 pub record Gathering (c : Chunk) (f : ℕ → AnyShape) (lo n i at : ℕ) (whole : Result ⊤ ManyPlaces) (held : List ℕ) : Type 0 where
   pub list : List ℕ
-  pub added : Holds whole held list
+  pub added : HeldAll whole held list
   pub all : built_places c 0 (up (λ j. f (lo + j)) 0 n) ≡ before_text (built_places c at (up (λ j. f (lo + j)) i (n - i))) list
 
 before_none : (t : Option (List ℕ)) → t ≡ before_text t []

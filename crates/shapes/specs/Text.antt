@@ -13,10 +13,14 @@ abbrev pub Adds : List ℕ → List ℕ → Result ⊤ ManyPlaces → List ℕ �
 Adds held more (Ok done) after = after ≡ held ++ more
 Adds held more (Err many) after = 16 < length (held ++ more)
 
+-- whatever is added, and whether there was room: the places before stand at the front of those after
+abbrev pub Keeps : List ℕ → List ℕ → Type 0
+Keeps held after = (more : List ℕ) × (after ≡ held ++ more)
+
 -- Places that were added one after another, with what all the additions say: those that are held are the list, or the list is longer than 16.
-abbrev pub Holds : Result ⊤ ManyPlaces → List ℕ → List ℕ → Type 0
-Holds (Ok done) held l = held ≡ l
-Holds (Err many) held l = 16 < length l
+abbrev pub HeldAll : Result ⊤ ManyPlaces → List ℕ → List ℕ → Type 0
+HeldAll (Ok done) held l = held ≡ l
+HeldAll (Err many) held l = 16 < length l
 
 -- what the places of a new composite are: so many, unknown, or more than sixteen
 unfoldable pub Means : Result (Maybe Places) ManyPlaces → Option (List ℕ) → Type 0

@@ -16,7 +16,8 @@ pub const MOST_PLACES: usize = 16;
 #[derive(Clone, Copy, Debug, PartialEq, Eq)]
 pub struct ManyPlaces;
 
-// Text places of one body, first to last. Past the count all are 0, so that equal places are equal fields. A ghost field and not an impl Model: of a value that holds a struct with
+// Text places of one body, first to last: sixteen and how many count, and no vector of fixed room, since this stands on std alone (README), and a value is copied with its places.
+// Past the count all are 0, so that equal places are equal fields. A ghost field and not an impl Model: of a value that holds a struct with
 // a model the check proves no copy yet.
 #[derive(Clone, Copy, PartialEq, Eq)]
 pub struct Places {
@@ -27,7 +28,7 @@ pub struct Places {
 
 impl Places {
     ghost use Rattle.shapes.specs.Model.{list_of, value_of};
-    ghost use Rattle.shapes.specs.Text.{Adds, Took};
+    ghost use Rattle.shapes.specs.Text.{Adds, Keeps, Took};
 
     pub fn new() -> Places
         ensures { list_of result ≡ [] }
@@ -86,7 +87,8 @@ impl Places {
 
     // So many places more, each moved by `by`.
     fn add_all(&mut self, more: &Places, by: u32) -> Result<(), ManyPlaces>
-        ensures { Adds (list_of self.old) (shift by (list_of more.now)) result (list_of self.new) }
+        ensures added { Adds (list_of self.old) (shift by (list_of more.now)) result (list_of self.new) }
+        ensures kept { Keeps (list_of self.old) (list_of self.new) }
     {
         for &offset in more.as_slice() {
             self.add(by.saturating_add(offset))?;
@@ -97,7 +99,8 @@ impl Places {
     // The text places of an element at `at` more; none where that element's are unknown.
     #[tactic(auto, unfolding(crate::specs::Model::shape_of, crate::specs::Model::places_of, crate::specs::Text::own, definition::specs::Effects::keep_if))]
     pub fn add_text(&mut self, at: u32, element: Value) -> Option<Result<(), ManyPlaces>>
-        ensures { Took at (value_of element) (list_of self.old) result (list_of self.new) }
+        ensures took { Took at (value_of element) (list_of self.old) result (list_of self.new) }
+        ensures kept { Keeps (list_of self.old) (list_of self.new) }
     {
         match element.shape {
             Shape::Unknown => None,

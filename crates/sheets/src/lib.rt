@@ -8,7 +8,6 @@ ghost use Rattle.bytecode.specs.Meaning.{module_of};
 ghost use Rattle.answer.specs.Answer.{found_in_none};
 
 use answer::Refusal;
-use bytecode;
 
 // The instructions of all chunks: at most 4,096 to each of 64, whatever the tables hold.
 pub fn all_instructions(t: &[u64]) -> usize

@@ -8,9 +8,7 @@ use std::fmt::InlineText;
 use std::fs::File;
 use std::io;
 use std::io::{Error, ErrorKind, Read, Write};
-
-// One byte more than a listing may have. It is enough: the text is the same whatever follows (`enough` in crates/stagecheck_text/proofs/Laws.antt).
-const LISTING: usize = 65537;
+use typed_check::LISTING;
 
 // The longest path that the system takes, with the byte that ends it.
 const PATH: usize = 4096;
@@ -50,6 +48,8 @@ fn check_input<'a>(
     input: &mut impl Read,
     name: &'a [u8],
 ) -> Result<(), Failure<'a>> {
+    // So much is enough: the text is the same whatever follows (`enough` in crates/stagecheck_text/proofs/Laws.antt). An array, since
+    // programs ask for no memory (docs/PORT.md).
     let mut listing = [0; LISTING];
     let read = reading::read_full(input, &mut listing);
     let length = read.map_err(|why| Failure { what: name, why })?;

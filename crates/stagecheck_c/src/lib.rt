@@ -1,4 +1,4 @@
-// The check, the reader and the writer for callers in C and Rust: include/stagecheck.h declares them and says what their numbers mean.
+// The check, the reader and the writer for callers in C and Rust: include/stagecheck.h declares them and says what their numbers mean. Their parameters stand one by one, as C lends them.
 #![tactic(auto)]
 
 ghost use Rattle.std.specs.Prelude.{◌≡◌, length};
@@ -26,7 +26,7 @@ fn give(numbers: Numbers, answer: &mut [u64; 8]) -> usize
 #[unsafe(no_mangle)]
 pub extern "C" fn stagecheck_check_in(
     listing: &[u8],
-    tables: &mut [u64; 22232],
+    tables: &mut [u64; bytecode::SIZE],
     heights: &mut [u8],
     blinds: &mut [u8],
     answer: &mut [u64; 8],
@@ -49,12 +49,12 @@ pub extern "C" fn stagecheck_check(
     ensures given { Given (check listing.now (length heights.old) (length blinds.old)) result answer.new heights.new blinds.new }
     ensures sound { Sound (check listing.now (length heights.old) (length blinds.old)).answer listing.now heights.new blinds.new }
 {
-    let mut tables = [0u64; 22232];
+    let mut tables = [0u64; bytecode::SIZE];
     stagecheck_check_in(listing, &mut tables, heights, blinds, answer)
 }
 
 // Reading, and how much was read. A listing that does not read leaves no header, and tables without a header say no module.
-fn read_into(listing: &[u8], tables: &mut [u64; 22232]) -> Result<Accepted, Refused>
+fn read_into(listing: &[u8], tables: &mut [u64; bytecode::SIZE]) -> Result<Accepted, Refused>
     ensures { ReadInto (read_listing listing.now) result tables.new }
 {
     match listing::read(listing, tables) {
@@ -70,7 +70,7 @@ fn read_into(listing: &[u8], tables: &mut [u64; 22232]) -> Result<Accepted, Refu
 #[unsafe(no_mangle)]
 pub extern "C" fn stagecheck_read(
     listing: &[u8],
-    tables: &mut [u64; 22232],
+    tables: &mut [u64; bytecode::SIZE],
     answer: &mut [u64; 8],
 ) -> usize
     ensures { ReadGiven (read_listing listing.now) result answer.new tables.new }
@@ -82,7 +82,7 @@ pub extern "C" fn stagecheck_read(
 // Writes the module that the tables say as its listing, for any words and any buffer; gives how many words the answer has.
 #[unsafe(no_mangle)]
 pub extern "C" fn stagecheck_write(
-    tables: &[u64; 22232],
+    tables: &[u64; bytecode::SIZE],
     out: &mut [u8],
     answer: &mut [u64; 8],
 ) -> usize

@@ -6,13 +6,14 @@ ghost use Rattle.printed.specs.Writes.{Holds};
 
 use answer::Numbers;
 use printed::ROOM;
+use typed_check::SHEET;
 
 // With lent tables, whatever they hold.
-fn check_text_into(listing: &[u8], t: &mut [u64; 22232], out: &mut [u8; ROOM]) -> usize
+fn check_text_into(listing: &[u8], t: &mut [u64; bytecode::SIZE], out: &mut [u8; ROOM]) -> usize
     ensures { Holds out.new result (printed listing.now) }
 {
-    let mut heights = [0u8; 4096];
-    let mut blinds = [0u8; 4096];
+    let mut heights = [0u8; SHEET];
+    let mut blinds = [0u8; SHEET];
     match typed_check::check_into(listing, t, &mut heights, &mut blinds) {
         Ok(_) => printed::print_accepted(t, &heights, &blinds, out),
         Err(refused) => {
@@ -26,6 +27,6 @@ fn check_text_into(listing: &[u8], t: &mut [u64; 22232], out: &mut [u8; ROOM]) -
 pub fn check_text(listing: &[u8], out: &mut [u8; ROOM]) -> usize
     ensures { Holds out.new result (printed listing.now) }
 {
-    let mut tables = [0u64; 22232];
+    let mut tables = [0u64; bytecode::SIZE];
     check_text_into(listing, &mut tables, out)
 }

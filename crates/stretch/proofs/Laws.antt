@@ -76,7 +76,7 @@ module _ (c : Chunk) (w : Walker) (ip end floor : ℕ) (s : AnyState) (b : AnyBr
 
 -- the walk has come from start to ip
 pub record Running (x : Context) (start end floor : ℕ) (s₀ : State) (sh₀ : Sheets) (ip : ℕ) (s : State) (sh : Sheets) : Type 0 where
-  pub came : Comes x start end floor (state_of x.locals s₀) sh₀ ip (state_of x.locals s) sh
+  pub came : Comes x start end floor (state_of x.locals.count s₀) sh₀ ip (state_of x.locals.count s) sh
 
 pub running_start : (x : Context) (start end floor : ℕ) (s : State) (sh : Sheets) → Running x start end floor s sh start s sh
 running_start x start end floor s sh = record { came = λ w W b. refl }
@@ -91,63 +91,63 @@ module _ (x : Context) (start end floor : ℕ) (s₀ : State) (sh₀ : Sheets) (
         from = omega arith;
         to = omega arith;
         moved = λ l z. l;
-        came = λ w W b. R.came w W b ∙ ap (λ (n : ℕ). w n end floor (state_of x.locals s) b sh) e;
+        came = λ w W b. R.came w W b ∙ ap (λ (n : ℕ). w n end floor (state_of x.locals.count s) b sh) e;
       }
 
-  module _ (below : ip < end) (i : Instr) (I : InstrIs x.tables.now (x.first + ip) i) where
+  module _ (below : ip < end) (i : Instr) (I : InstrIs x.tables.now (x.code.first + ip) i) where
     pub running_block : straight i.code ≡ false → Passes x start end floor s₀ sh₀ ip s sh
     running_block e =
         record {
           from = from;
           to = omega arith;
           moved = λ l z. ⊎_elim (λ (q : start < ip). q)
-              (λ (q : ip ≤ start). absurd (no_false (sym e ∙ ap straight I.code_is ∙ ap (λ (n : ℕ). straight (op_at x.tables.now (x.first + n)).code) (let y : ip ≡ start = omega arith in y) ∙ z)))
+              (λ (q : ip ≤ start). absurd (no_false (sym e ∙ ap straight I.code_is ∙ ap (λ (n : ℕ). straight (op_at x.tables.now (x.code.first + n)).code) (let y : ip ≡ start = omega arith in y) ∙ z)))
               (lt_or_ge start ip);
           came = R.came;
         }
 
     module _ (e : straight i.code ≡ true) (u : State) where
-      examined : (r : Outcome Unit Refusal) → Examined x i ip floor s r u → examine c ip floor (table_instr_at x.tables.now (x.first + ip)) (state_of x.locals s) ≡ result_of x.locals r u
-      examined r E = ap (λ (z : AnyInstr). examine c ip floor z (state_of x.locals s)) (sym I.same) ∙ sym E.result
+      examined : (r : Outcome Unit Refusal) → Examined x i ip floor s r u → examine c ip floor (table_instr_at x.tables.now (x.code.first + ip)) (state_of x.locals.count s) ≡ result_of x.locals.count r u
+      examined r E = ap (λ (z : AnyInstr). examine c ip floor z (state_of x.locals.count s)) (sym I.same) ∙ sym E.result
 
-      leads_there : control (table_instr_at x.tables.now (x.first + ip)) ≡ leads i.code i.a
-      leads_there = leads_here x.tables.now (x.first + ip) i I
+      leads_there : control (table_instr_at x.tables.now (x.code.first + ip)) ≡ leads i.code i.a
+      leads_there = leads_here x.tables.now (x.code.first + ip) i I
 
-      visited : (k : Control) → control (table_instr_at x.tables.now (x.first + ip)) ≡ k → (w : Walker) → Unfolds x start end floor w → (bs : AnyBreaks) →
-          w start end floor (state_of x.locals s₀) bs sh₀ ≡ walk_instr c w ip end floor (state_of x.locals s) bs sh (table_instr_at x.tables.now (x.first + ip)) k
-      visited k q w W bs = R.came w W bs ∙ W ip from below (state_of x.locals s) bs sh ∙ ap (walk_instr c w ip end floor (state_of x.locals s) bs sh (table_instr_at x.tables.now (x.first + ip))) q
+      visited : (k : Control) → control (table_instr_at x.tables.now (x.code.first + ip)) ≡ k → (w : Walker) → Unfolds x start end floor w → (bs : AnyBreaks) →
+          w start end floor (state_of x.locals.count s₀) bs sh₀ ≡ walk_instr c w ip end floor (state_of x.locals.count s) bs sh (table_instr_at x.tables.now (x.code.first + ip)) k
+      visited k q w W bs = R.came w W bs ∙ W ip from below (state_of x.locals.count s) bs sh ∙ ap (walk_instr c w ip end floor (state_of x.locals.count s) bs sh (table_instr_at x.tables.now (x.code.first + ip))) q
 
       marks : (b : Bool) → b ≡ is_blind (reading c (any_instr_of i)) (stack_of s) →
-          mark c ip (table_instr_at x.tables.now (x.first + ip)) (state_of x.locals s) sh ≡ marked (x.first + ip) s.height b sh
+          mark c ip (table_instr_at x.tables.now (x.code.first + ip)) (state_of x.locals.count s) sh ≡ marked (x.code.first + ip) s.height b sh
       unfolding mark marked
       marks b B =
-          ap (λ (n : ℕ). record { heights = set sh.heights (n + ip) (suc (height (state_of x.locals s))); blinds = mark_blind (is_blind (reading c (table_instr_at x.tables.now (x.first + ip))) (stack_of s)) (n + ip) sh.blinds })
+          ap (λ (n : ℕ). record { heights = set sh.heights (n + ip) (suc (height (state_of x.locals.count s))); blinds = mark_blind (is_blind (reading c (table_instr_at x.tables.now (x.code.first + ip))) (stack_of s)) (n + ip) sh.blinds })
           (chunk_base x.tables.now x.chunk ∙ sym x.of.first_is)
-          ∙ ap (λ (n : ℕ). record { heights = set sh.heights (x.first + ip) (suc n); blinds = mark_blind (is_blind (reading c (table_instr_at x.tables.now (x.first + ip))) (stack_of s)) (x.first + ip) sh.blinds })
+          ∙ ap (λ (n : ℕ). record { heights = set sh.heights (x.code.first + ip) (suc n); blinds = mark_blind (is_blind (reading c (table_instr_at x.tables.now (x.code.first + ip))) (stack_of s)) (x.code.first + ip) sh.blinds })
           (down-length (value_at s) s.height)
-          ∙ ap (λ (z : Bool). record { heights = set sh.heights (x.first + ip) (suc s.height); blinds = mark_blind z (x.first + ip) sh.blinds })
+          ∙ ap (λ (z : Bool). record { heights = set sh.heights (x.code.first + ip) (suc s.height); blinds = mark_blind z (x.code.first + ip) sh.blinds })
           (ap (λ (z : AnyInstr). is_blind (reading c z) (stack_of s)) (sym I.same) ∙ sym B)
 
       pub running_on : Examined x i ip floor s (Ok tt) u → (b : Bool) → ((d : Chunk) → b ≡ is_blind (reading d (any_instr_of i)) (stack_of s)) →
-          (sh' : Sheets) → sh' ≡ marked (x.first + ip) s.height b sh → Running x start end floor s₀ sh₀ (ip + 1) u sh'
+          (sh' : Sheets) → sh' ≡ marked (x.code.first + ip) s.height b sh → Running x start end floor s₀ sh₀ (ip + 1) u sh'
       unfolding refusal pass
       running_on E b B sh' m =
           let passed = examined (Ok tt) E in
           record {
             came = λ w W bs.
                 ⊎_elim
-                (λ z. visited onward (leads_there ∙ z) w W bs ∙ instr_onward c w ip end floor (state_of x.locals s) bs sh (table_instr_at x.tables.now (x.first + ip)) _ passed)
-                (λ z. visited resets (leads_there ∙ z) w W bs ∙ instr_resets c w ip end floor (state_of x.locals s) bs sh (table_instr_at x.tables.now (x.first + ip)) _ passed)
+                (λ z. visited onward (leads_there ∙ z) w W bs ∙ instr_onward c w ip end floor (state_of x.locals.count s) bs sh (table_instr_at x.tables.now (x.code.first + ip)) _ passed)
+                (λ z. visited resets (leads_there ∙ z) w W bs ∙ instr_resets c w ip end floor (state_of x.locals.count s) bs sh (table_instr_at x.tables.now (x.code.first + ip)) _ passed)
                 (straight-leads i.code i.a e)
-                ∙ ap (w (suc ip) end floor (state_of x.locals u) bs) (marks b (B c) ∙ sym m)
-                ∙ ap (λ (n : ℕ). w n end floor (state_of x.locals u) bs sh') (sym (add-one ip));
+                ∙ ap (w (suc ip) end floor (state_of x.locals.count u) bs) (marks b (B c) ∙ sym m)
+                ∙ ap (λ (n : ℕ). w n end floor (state_of x.locals.count u) bs sh') (sym (add-one ip));
           }
 
-      pub running_refused : (f : Refusal) → Examined x i ip floor s (Err f) u → Stops x start end floor (state_of x.locals s₀) sh₀ f
+      pub running_refused : (f : Refusal) → Examined x i ip floor s (Err f) u → Stops x start end floor (state_of x.locals.count s₀) sh₀ f
       unfolding refusal pass
       running_refused f E w W bs =
           let stopped = examined (Err f) E in
           ⊎_elim
-          (λ z. visited onward (leads_there ∙ z) w W bs ∙ instr_refused c w ip end floor (state_of x.locals s) bs sh (table_instr_at x.tables.now (x.first + ip)) onward tt _ stopped)
-          (λ z. visited resets (leads_there ∙ z) w W bs ∙ instr_refused c w ip end floor (state_of x.locals s) bs sh (table_instr_at x.tables.now (x.first + ip)) resets tt _ stopped)
+          (λ z. visited onward (leads_there ∙ z) w W bs ∙ instr_refused c w ip end floor (state_of x.locals.count s) bs sh (table_instr_at x.tables.now (x.code.first + ip)) onward tt _ stopped)
+          (λ z. visited resets (leads_there ∙ z) w W bs ∙ instr_refused c w ip end floor (state_of x.locals.count s) bs sh (table_instr_at x.tables.now (x.code.first + ip)) resets tt _ stopped)
           (straight-leads i.code i.a e)

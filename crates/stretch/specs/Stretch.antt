@@ -17,7 +17,7 @@ straight code = ltb code 64 || (eqb code 72 || eqb code 73)
 
 -- the instruction at ip leads straight onward
 abbrev pub Straight : Context → ℕ → Type 0
-Straight x ip = straight (op_at x.tables.now (x.first + ip)).code ≡ true
+Straight x ip = straight (op_at x.tables.now (x.code.first + ip)).code ≡ true
 
 -- where an instruction leads, from its code and first operand
 unfoldable pub leads : ℕ → ℕ → Control
@@ -39,7 +39,7 @@ marked at h b sh = record { heights = set sh.heights at (suc h); blinds = mark_b
 abbrev pub Unfolds : Context → ℕ → ℕ → ℕ → Walker → Type 0
 Unfolds x start end floor w =
     (ip : ℕ) → start ≤ ip → ip < end → (s : AnyState) (b : AnyBreaks) (sh : Sheets) →
-    w ip end floor s b sh ≡ walk_instr (chunk_in x) w ip end floor s b sh (table_instr_at x.tables.now (x.first + ip)) (control (table_instr_at x.tables.now (x.first + ip)))
+    w ip end floor s b sh ≡ walk_instr (chunk_in x) w ip end floor s b sh (table_instr_at x.tables.now (x.code.first + ip)) (control (table_instr_at x.tables.now (x.code.first + ip)))
 
 -- Such a walk comes from start, a state and sheets to ip and others.
 abbrev pub Comes : Context → ℕ → ℕ → ℕ → AnyState → Sheets → ℕ → AnyState → Sheets → Type 0
@@ -50,13 +50,18 @@ pub record Passes (x : Context) (start end floor : ℕ) (s : State) (sh : Sheets
   pub from : start ≤ next
   pub to : next ≤ end
   pub moved : start < end → Straight x start → start < next
-  pub came : Comes x start end floor (state_of x.locals s) sh next (state_of x.locals u) sh'
+  pub came : Comes x start end floor (state_of x.locals.count s) sh next (state_of x.locals.count u) sh'
 
 -- The walk from start, a state and sheets is refused.
 abbrev pub Stops : Context → ℕ → ℕ → ℕ → AnyState → Sheets → Refusal → Type 0
 Stops x start end floor s sh r = (w : Walker) → Unfolds x start end floor w → (b : AnyBreaks) → w start end floor s b sh ≡ refused (fields r)
 
+-- A refusal names the instruction at which the walk stopped: the ip stands behind its number.
+abbrev pub StoppedIn : ℕ → ℕ → Outcome ℕ Refusal → Type 0
+StoppedIn start end (Ok next) = Unit {0}
+StoppedIn start end (Err r) = (start ≤ get_or (fields r) 1 0) × (get_or (fields r) 1 0 < end)
+
 -- The walk of straight instructions from start on: it comes to where it stopped, or is refused.
 abbrev pub RanIs : Context → ℕ → ℕ → ℕ → State → Sheets → Outcome ℕ Refusal → State → Sheets → Type 0
 RanIs x start end floor s sh (Ok next) u sh' = Passes x start end floor s sh next u sh'
-RanIs x start end floor s sh (Err r) u sh' = Stops x start end floor (state_of x.locals s) sh r
+RanIs x start end floor s sh (Err r) u sh' = Stops x start end floor (state_of x.locals.count s) sh r

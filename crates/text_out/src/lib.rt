@@ -9,6 +9,7 @@ ghost use Rattle.text_out.specs.Text.{started, with_text, text_length};
 
 use std::fmt;
 
+// A slice and a place, and no vector: the buffer is the caller's, and the place goes on past its end.
 #[derive(Drop)]
 pub struct Text<'a> {
     out: &'a mut [u8],
@@ -50,7 +51,7 @@ impl<'a> Text<'a> {
         }
     }
 
-    // The digits before the last one, then the last one.
+    // The digits before the last one, then the last one. By hand: `write!` promises a text only where it gives Ok.
     #[tactic(auto, using(crate::proofs::Laws::with_last_digit, crate::proofs::Laws::with_more_digits))]
     pub fn decimal(&mut self, n: u64)
         ensures { self.new ≡ with_text self.old (decimal n) }

@@ -1,31 +1,26 @@
 -- The tests of a module in the tables, in order, and its walk.
-use mathlib.Core.Path.{◌≡◌, refl, sym, ap, ◌∙◌, subst}
+use mathlib.Core.Path.{◌≡◌, sym, ap, ◌∙◌}
 use mathlib.Core.Option.{Option, none, some}
-use mathlib.Core.List.{List, [], ◌∷◌}
-use Prim.Native.Nat.{ℕ, suc, min, ◌+◌, ◌≤◌, ◌<◌}
+use mathlib.Core.List.{List}
+use Prim.Native.Nat.{ℕ, min, ◌+◌, ◌≤◌, ◌<◌}
 use native.Mathlib.Omega.{arith}
-use lib.Dec.{T, leb, leb→le}
+use lib.Dec.{leb, leb→le}
 use lib.ListN.{length, replicate}
 use Rattle.definition.specs.Basics.{Result, ok, refused, ◌>>=◌, first, pass}
 use Rattle.definition.specs.Instructions.{Chunk}
 use Rattle.definition.specs.Module.{Module, all_ops}
 use Rattle.definition.specs.Layout.{layout_test}
-use Rattle.definition.specs.Walk.{Sheets, Walked, walk_chunk}
-use Rattle.definition.specs.Check.{sheets_test, nesting_test, in_chunk, walk_all, zeros, check_module}
-use Rattle.theorems.specs.Nested.{Nested}
-use Rattle.theorems.specs.Each.{Each, both}
+use Rattle.definition.specs.Walk.{Sheets}
+use Rattle.definition.specs.Check.{sheets_test, nesting_test, walk_all, zeros, check_module}
 use Rattle.theorems.specs.Cover.{no_some, T_of, first_none, unless_none}
-use Rattle.theorems.specs.Accepted.{all_nested}
-use Rattle.theorems.specs.Refusals.{known_walk, walk-known}
 use Rattle.bytecode.specs.Tables.{cap}
 use Rattle.bytecode.specs.Meaning.{count, count_low, first_op, op_count, module_of, table_chunks}
 use Rattle.listing.specs.Answer.{StandsIn}
 use Rattle.sheets.specs.Totals.{chunk_within}
 use Rattle.nesting.specs.Chunks.{fine}
-use Rattle.answer.specs.Answer.{numbers, refused_numbers, found, fields, with_chunk, refusal}
+use Rattle.answer.specs.Answer.{refused_numbers, found}
 use Rattle.std.specs.Prelude.{Result as Outcome, Ok, Err}
 use Rattle.answer.specs.declared.Refused.{Refused}
-use Rattle.rules.specs.Answers.{values_of}
 use Rattle.walk.specs.Ready.{Roomy, results_of}
 use Rattle.stretch.specs.Stretch.{sheets_of}
 use Rattle.typed_check.specs.Equal.{tests_of}

@@ -1,6 +1,6 @@
 -- What the entry's types mean, and what it promises.
 use Rattle.std.specs.Prelude.{◌≡◌, List, ℕ, length, Result as Outcome, Ok, Err}
-use Rattle.std.proofs.Math.Option.{Option, none, some}
+use Rattle.std.proofs.Math.Option.{Option}
 use Rattle.definition.specs.Basics.{ok, refused, first}
 use Rattle.definition.specs.Read.{read}
 use Rattle.definition.specs.Module.{all_ops}

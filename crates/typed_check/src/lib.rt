@@ -12,6 +12,12 @@ ghost use Rattle.typed_check.specs.Equal.{checked_of, counted, CheckedIs, Sound,
 
 use answer::{Accepted, Refused};
 
+// One byte more than a listing may have. What follows does not change the answer.
+pub const LISTING: usize = 65_537;
+
+// A listing has no more instructions, so a sheet has zeros behind these entries.
+pub const SHEET: usize = 4096;
+
 // ---- the module in the tables
 
 // The tests before the walk, in 01's order.
@@ -45,12 +51,12 @@ pub fn counts(t: &[u64]) -> Accepted
     }
 }
 
-// ---- the entry
+// ---- the entry: the tables and the sheets stand one by one, as C lends them
 
 // The check of a listing; what a refusal leaves in the sheets is not said.
 fn checked(
     listing: &[u8],
-    t: &mut [u64; 22232],
+    t: &mut [u64; bytecode::SIZE],
     heights: &mut [u8],
     blinds: &mut [u8],
 ) -> Result<Accepted, Refused>
@@ -66,7 +72,7 @@ fn checked(
 // The check with lent tables, whatever they and the sheets hold. Where the listing is accepted, the tables hold its module.
 pub fn check_into(
     listing: &[u8],
-    t: &mut [u64; 22232],
+    t: &mut [u64; bytecode::SIZE],
     heights: &mut [u8],
     blinds: &mut [u8],
 ) -> Result<Accepted, Refused>
@@ -91,6 +97,6 @@ pub fn typed_check(
     ensures equal { checked_of result heights.new blinds.new ≡ check listing.now (length heights.old) (length blinds.old) }
     ensures sound { Sound (answer_of result) listing.now heights.new blinds.new }
 {
-    let mut tables = [0u64; 22232];
+    let mut tables = [0u64; bytecode::SIZE];
     check_into(listing, &mut tables, heights, blinds)
 }

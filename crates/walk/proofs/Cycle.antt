@@ -33,7 +33,7 @@ use Rattle.stretch.proofs.Codes.{instr_here, no_instr}
 use Rattle.blocks.specs.declared.Flow.{Flow}
 use Rattle.blocks.specs.declared.Flow.TheVariants.{Ended, Falls}
 use Rattle.blocks.specs.Outcomes.{Standing, fall_of, walked_of, end_of, rest_of, after_last, loop_of, forgotten}
-use Rattle.blocks.specs.Visits.{Placed, instr_in, visit_in, Coded, Guarded, onward_of, next_of}
+use Rattle.blocks.specs.Visits.{Placed, instr_in, visit_in, Coded, Guarded, falling_to, next_of}
 use Rattle.blocks.proofs.Laws.{height_is}
 use Rattle.blocks.proofs.Steps.{quiet_mark, if_refused, if_passed}
 use Rattle.walk.specs.Ready.{Ready, Walks, In, Goes, Visits, Arms, last_from, last_in}
@@ -45,16 +45,16 @@ pub placed_by : (x : Context) (h b h' b' : List ℕ) → length h' ≡ length h 
 placed_by x h b h' b' e f p = record { heights_long = omega (arith, p.heights_long); blinds_long = omega (arith, p.blinds_long); nested = p.nested }
 
 -- an arm ends within its chunk
-pub arm_in : (x : Context) (a end : ℕ) → Nested (chunk_in x) → Arm (chunk_in x) a end → end ≤ x.count
-arm_in x a end N arm = elim (dec_lt x.count end) [
-  | yes l ↦ absurd (in_arm (chunk_in x) N arm x.count l (no_instr x.tables.now x.chunk x.first x.count x.count x.of.first_is x.of.count_is (omega arith)))
+pub arm_in : (x : Context) (a end : ℕ) → Nested (chunk_in x) → Arm (chunk_in x) a end → end ≤ x.code.count
+arm_in x a end N arm = elim (dec_lt x.code.count end) [
+  | yes l ↦ absurd (in_arm (chunk_in x) N arm x.code.count l (no_instr x.tables.now x.chunk x.code.first x.code.count x.code.count x.of.first_is x.of.count_is (omega arith)))
   | no g ↦ omega arith
 ]
 
-pub instr_there : (x : Context) (ip : ℕ) → ip < x.count → instr_at (chunk_in x) ip ≡ some (instr_in x ip)
-instr_there x ip h = instr_here x.tables.now x.chunk x.first x.count ip x.of.first_is x.of.count_is h
+pub instr_there : (x : Context) (ip : ℕ) → ip < x.code.count → instr_at (chunk_in x) ip ≡ some (instr_in x ip)
+instr_there x ip h = instr_here x.tables.now x.chunk x.code.first x.code.count ip x.of.first_is x.of.count_is h
 
-pub leads_at : (x : Context) (ip : ℕ) → ip < x.count → {k : Control} → control (instr_in x ip) ≡ k → control_at (chunk_in x) ip ≡ k
+pub leads_at : (x : Context) (ip : ℕ) → ip < x.code.count → {k : Control} → control (instr_in x ip) ≡ k → control_at (chunk_in x) ip ≡ k
 unfolding control_at control_of
 leads_at x ip h e = ap control_of (instr_there x ip h) ∙ e
 
@@ -96,11 +96,11 @@ module _ (x : Context) (start end floor : ℕ) (p₀ : Standing) (ip : ℕ) (p :
           }
 
     -- straight instructions
-    module _ (s u : State) (sh : Sheets) (here : p.state ≡ state_of x.locals s) where
+    module _ (s u : State) (sh : Sheets) (here : p.state ≡ state_of x.locals.count s) where
       pub walking_ran : (next : ℕ) → Passes x ip end floor s p.sheets next u sh → length sh.heights ≡ length p.sheets.heights → length sh.blinds ≡ length p.sheets.blinds →
-          Walking x start end floor p₀ next (record { state = state_of x.locals u; breaks = p.breaks; sheets = sh })
+          Walking x start end floor p₀ next (record { state = state_of x.locals.count u; breaks = p.breaks; sheets = sh })
       walking_ran next P e f =
-          walking_to (record { state = state_of x.locals u; breaks = p.breaks; sheets = sh }) e f next P.from P.to
+          walking_to (record { state = state_of x.locals.count u; breaks = p.breaks; sheets = sh }) e f next P.from P.to
           (ap (λ (z : AnyState). full (chunk_in x) ip end floor z p.breaks p.sheets) here ∙ P.came (full (chunk_in x)) unfolds p.breaks)
 
     pub walking_refused : (r : Refusal) (q : Standing) → Stops x ip end floor p.state p.sheets r → Walks x start end floor p₀ (Err r) q
@@ -147,20 +147,20 @@ turned x ip floor p code k a r q e V = subst (λ (j : ℕ). Visits x ip floor p 
 
 -- an If's condition, then its arms
 module _ (x : Context) (ip floor : ℕ) (s : State) (low : s.height ≤ 64) (b : AnyBreaks) (h h' bl : List ℕ) (a : ℕ) (there : control (instr_in x ip) ≡ if_to a) where
-  pub if_stopped : (f : Refusal) (q : Standing) → Guarded (x.first + ip) 1 ip floor s.height h h' (Err f) →
-      Visits x ip floor (record { state = state_of x.locals s; breaks = b; sheets = sheets_of h bl }) (if_to a) (Err f) q
+  pub if_stopped : (f : Refusal) (q : Standing) → Guarded (x.code.first + ip) 1 ip floor s.height h h' (Err f) →
+      Visits x ip floor (record { state = state_of x.locals.count s; breaks = b; sheets = sheets_of h bl }) (if_to a) (Err f) q
   unfolding leads
   if_stopped f q G end I = record { walked = sym (if_refused x ip floor s low b h h' 65 a there end bl refl f G); goes = tt }
 
-  pub if_went : (u : AnyState) (r : Outcome (Maybe ℕ) Refusal) (q : Standing) → Guarded (x.first + ip) 1 ip floor s.height h h' (Ok tt) → u ≡ popped 1 (state_of x.locals s) →
+  pub if_went : (u : AnyState) (r : Outcome (Maybe ℕ) Refusal) (q : Standing) → Guarded (x.code.first + ip) 1 ip floor s.height h h' (Ok tt) → u ≡ popped 1 (state_of x.locals.count s) →
       Arms x a ip floor (record { state = u; breaks = b; sheets = sheets_of h' bl }) r q →
-      Visits x ip floor (record { state = state_of x.locals s; breaks = b; sheets = sheets_of h bl }) (if_to a) r q
+      Visits x ip floor (record { state = state_of x.locals.count s; breaks = b; sheets = sheets_of h bl }) (if_to a) r q
   unfolding leads
   if_went u r q G e A end I = let R = A end I in record { walked = R.walked ∙ sym (if_passed x ip floor s low b h h' 65 a there end bl refl G u e); goes = R.goes }
 
 -- on from what a block left
 onward_go : (c : Chunk) (e end floor : ℕ) (m : Flow) (u : AnyState) (b : AnyBreaks) (sh : Sheets) →
-    rest_of c end floor (Ok (onward_of m (e + 1))) (record { state = u; breaks = b; sheets = sh }) ≡ go_on (full c) e end floor b sh (fall_of m u)
+    rest_of c end floor (Ok (falling_to m (e + 1))) (record { state = u; breaks = b; sheets = sh }) ≡ go_on (full c) e end floor b sh (fall_of m u)
 unfolding go_on
 onward_go c e end floor Ended u b sh = refl
 onward_go c e end floor Falls u b sh = ap (λ (n : ℕ). full c n end floor u b sh) (add-one e)
@@ -176,7 +176,7 @@ goes_next ip end next (Ok Ended) l g = tt
 goes_next ip end next (Ok Falls) l g = (l, g)
 goes_next ip end next (Err r) l g = tt
 
-module _ (x : Context) (target ip : ℕ) (low : ip < x.count) (N : Nested (chunk_in x)) (there : control (instr_in x ip) ≡ if_to target) where
+module _ (x : Context) (target ip : ℕ) (low : ip < x.code.count) (N : Nested (chunk_in x)) (there : control (instr_in x ip) ≡ if_to target) where
   abbrev C : Chunk
   C = chunk_in x
 
@@ -188,7 +188,7 @@ module _ (x : Context) (target ip : ℕ) (low : ip < x.count) (N : Nested (chunk
     one_rule : IfRule C ip target none
     one_rule = subst (λ (z : Option ℕ). IfRule C ip target z) (sym L) (rule_at N ip if_here)
 
-    pub one_arm_in : (ip < target) × (target ≤ x.count) × Arm C (ip + 1) target
+    pub one_arm_in : (ip < target) × (target ≤ x.code.count) × Arm C (ip + 1) target
     one_arm_in =
         let arm = subst (λ (n : ℕ). Arm C n target) (sym (add-one ip)) (only_arm ip target if_here (sym L)) in
         (one_rule.0, arm_in x (ip + 1) target N arm, arm)
@@ -222,7 +222,7 @@ module _ (x : Context) (target ip : ℕ) (low : ip < x.count) (N : Nested (chunk
     two_rule : IfRule C ip target (some d)
     two_rule = subst (λ (z : Option ℕ). IfRule C ip target z) (sym L) (rule_at N ip if_here)
 
-    pub two_arms_in : (ip + 1 < target) × (target ≤ d) × (d ≤ x.count) × Arm C (ip + 1) (target - 1) × Arm C target d
+    pub two_arms_in : (ip + 1 < target) × (target ≤ d) × (d ≤ x.code.count) × Arm C (ip + 1) (target - 1) × Arm C target d
     two_arms_in =
         let two = else_is C ip target d (sym L) in
         let last = else_arm ip target d if_here (sym L) in (
@@ -283,7 +283,7 @@ module _ (x : Context) (target ip : ℕ) (low : ip < x.count) (N : Nested (chunk
 
 module _ (x : Context) (ip exit : ℕ) (s₀ : State) where
   abbrev body : AnyState → Sheets → Result Walked
-  body head sh = full (chunk_in x) (suc ip) (exit - 1) (height (state_of x.locals s₀)) head no_break sh
+  body head sh = full (chunk_in x) (suc ip) (exit - 1) (height (state_of x.locals.count s₀)) head no_break sh
 
   abbrev lost : List Shape → List Shape
   lost = forget (chunk_in x) (suc ip) (exit - 1 - suc ip)
@@ -304,9 +304,9 @@ module _ (x : Context) (ip exit : ℕ) (s₀ : State) where
     pub blinds_same : length sh.blinds ≡ length sh₀.blinds
     pub head_height : head.height ≡ s₀.height
     pub few : left ≤ 34
-    pub on : loop_of (chunk_in x) ip exit (state_of x.locals s₀) sh₀ ≡ passes body lost ip left (state_of x.locals head) sh
+    pub on : loop_of (chunk_in x) ip exit (state_of x.locals.count s₀) sh₀ ≡ passes body lost ip left (state_of x.locals.count head) sh
 
-  pub passing_start : (sh : Sheets) → Passing sh sh s₀ (x.locals + 2)
+  pub passing_start : (sh : Sheets) → Passing sh sh s₀ (x.locals.count + 2)
   unfolding loop_of
   passing_start sh =
       record {
@@ -314,19 +314,19 @@ module _ (x : Context) (ip exit : ℕ) (s₀ : State) where
         blinds_same = refl;
         head_height = refl;
         few = omega (arith, x.of.locals_low);
-        on = ap (λ (n : ℕ). passes body lost ip (n + 2) (state_of x.locals s₀) sh) (chunk_locals x.tables.now x.chunk ∙ sym x.of.locals_is);
+        on = ap (λ (n : ℕ). passes body lost ip (n + 2) (state_of x.locals.count s₀) sh) (chunk_locals x.tables.now x.chunk ∙ sym x.of.locals_is);
       }
 
-  module _ (sh₀ sh : Sheets) (head : State) (left : ℕ) (P : Passing sh₀ sh head left) (from : AnyState) (at_head : from ≡ state_of x.locals head)
+  module _ (sh₀ sh : Sheets) (head : State) (left : ℕ) (P : Passing sh₀ sh head left) (from : AnyState) (at_head : from ≡ state_of x.locals.count head)
       (e : State) (k : AnyBreaks) (sh' : Sheets) where
     abbrev H : AnyState
-    H = state_of x.locals head
+    H = state_of x.locals.count head
 
     abbrev E : AnyState
-    E = state_of x.locals e
+    E = state_of x.locals.count e
 
     abbrev the_loop : Result AnyLeft
-    the_loop = loop_of (chunk_in x) ip exit (state_of x.locals s₀) sh₀
+    the_loop = loop_of (chunk_in x) ip exit (state_of x.locals.count s₀) sh₀
 
     -- the walk of the body from the head
     abbrev Pass : Outcome Flow Refusal → Type 0
@@ -336,8 +336,8 @@ module _ (x : Context) (ip exit : ℕ) (s₀ : State) where
     came r O =
         P.on ∙ one_pass left H sh
         ∙ ap (λ (m : Result Walked). m >>= λ (w : Walked). pass_end ip H w (again left H) w.fall)
-        (ap (λ (n : ℕ). full (chunk_in x) n (exit - 1) (height (state_of x.locals s₀)) H no_break sh) (sym (add-one ip))
-        ∙ ap (λ (n : ℕ). full (chunk_in x) (ip + 1) (exit - 1) n H no_break sh) (height_is x.locals s₀)
+        (ap (λ (n : ℕ). full (chunk_in x) n (exit - 1) (height (state_of x.locals.count s₀)) H no_break sh) (sym (add-one ip))
+        ∙ ap (λ (n : ℕ). full (chunk_in x) (ip + 1) (exit - 1) n H no_break sh) (height_is x.locals.count s₀)
         ∙ ap (λ (z : AnyState). full (chunk_in x) (ip + 1) (exit - 1) s₀.height z no_break sh) (sym at_head)
         ∙ sym O)
 
@@ -366,8 +366,8 @@ module _ (x : Context) (ip exit : ℕ) (s₀ : State) where
       pub pass_not_neutral : same_shapes E.stack H.stack ≡ false → refused (11 ∷ ip ∷ s₀.height ∷ e.height ∷ []) ≡ the_loop
       unfolding neutral
       pass_not_neutral g =
-          ap (λ (n : ℕ). refused (11 ∷ ip ∷ n ∷ e.height ∷ [])) (sym (height_is x.locals head ∙ P.head_height))
-          ∙ ap (λ (n : ℕ). refused (11 ∷ ip ∷ height H ∷ n ∷ [])) (sym (height_is x.locals e))
+          ap (λ (n : ℕ). refused (11 ∷ ip ∷ n ∷ e.height ∷ [])) (sym (height_is x.locals.count head ∙ P.head_height))
+          ∙ ap (λ (n : ℕ). refused (11 ∷ ip ∷ height H ∷ n ∷ [])) (sym (height_is x.locals.count e))
           ∙ sym (ended ∙ ap (λ (z : Bool). neutral z ip H E (if_stable (same_shapes (join_all H.locals E.locals) H.locals) stay go)) g)
 
       module _ (same : same_shapes E.stack H.stack ≡ true) where
@@ -387,10 +387,10 @@ module _ (x : Context) (ip exit : ℕ) (s₀ : State) where
           pub pass_last : left ≡ 0 → last_in x ip exit s₀.height H sh' ≡ the_loop
           unfolding again after_last
           pass_last g =
-              ap (λ (n : ℕ). after_last ip (forgotten (chunk_in x) (suc ip) (exit - 1) H) (full (chunk_in x) (suc ip) (exit - 1) n (forgotten (chunk_in x) (suc ip) (exit - 1) H) no_break sh')) (sym (height_is x.locals s₀))
+              ap (λ (n : ℕ). after_last ip (forgotten (chunk_in x) (suc ip) (exit - 1) H) (full (chunk_in x) (suc ip) (exit - 1) n (forgotten (chunk_in x) (suc ip) (exit - 1) H) no_break sh')) (sym (height_is x.locals.count s₀))
               ∙ sym (goes_on ∙ ap (λ (n : ℕ). again n H (join_all H.locals E.locals) sh') g)
 
-          pub pass_again : left ≢ 0 → (next : State) → next.height ≡ head.height → state_of x.locals next ≡ with_locals H (join_all H.locals E.locals) →
+          pub pass_again : left ≢ 0 → (next : State) → next.height ≡ head.height → state_of x.locals.count next ≡ with_locals H (join_all H.locals E.locals) →
               length sh'.heights ≡ length sh.heights → length sh'.blinds ≡ length sh.blinds → Passing sh₀ sh' next (left - 1)
           unfolding again
           pass_again n next g w u v =
@@ -420,7 +420,7 @@ last_refused x ip exit floor head H sh f e O = last_made x ip exit floor head H 
 
 -- ── After a loop ──────────────────────────────────────────────────────────────────────────
 
-module _ (x : Context) (ip target : ℕ) (low : ip < x.count) (there : control (instr_in x ip) ≡ loop_to target) where
+module _ (x : Context) (ip target : ℕ) (low : ip < x.code.count) (there : control (instr_in x ip) ≡ loop_to target) where
   -- the body of a loop
   pub loop_arm_in : Arm (chunk_in x) (ip + 1) (target - 1)
   loop_arm_in = subst (λ (z : ℕ). Arm (chunk_in x) z (target - 1)) (sym (add-one ip)) (loop_arm ip target (leads_at x ip low there))
@@ -429,31 +429,31 @@ module _ (x : Context) (ip target : ℕ) (low : ip < x.count) (there : control (
     loop_rule : LoopRule (chunk_in x) ip target
     loop_rule = rule_at N ip (leads_at x ip low there)
 
-    pub loop_in : (ip + 1 < target) × (target ≤ x.count)
+    pub loop_in : (ip + 1 < target) × (target ≤ x.code.count)
     loop_in =
-        let n : length (chunk_in x).code ≡ x.count = code_length x.tables.now x.chunk ∙ sym x.of.count_is in
+        let n : length (chunk_in x).code ≡ x.code.count = code_length x.tables.now x.chunk ∙ sym x.of.count_is in
         let inner : target - 1 < length (chunk_in x).code = loop_rule.2 0 (length (chunk_in x).code) whole_chunk (omega arith) (omega arith) in
         (omega (arith, loop_rule.0), omega (arith, loop_rule.0))
 
-    module _ (floor : ℕ) (s : State) (b : AnyBreaks) (h bl h₁ : List ℕ) (m : h₁ ≡ set h (x.first + ip) (suc s.height)) where
+    module _ (floor : ℕ) (s : State) (b : AnyBreaks) (h bl h₁ : List ℕ) (m : h₁ ≡ set h (x.code.first + ip) (suc s.height)) where
       abbrev p : Standing
-      p = record { state = state_of x.locals s; breaks = b; sheets = sheets_of h bl }
+      p = record { state = state_of x.locals.count s; breaks = b; sheets = sheets_of h bl }
 
-      around : (end : ℕ) (l : Result AnyLeft) → l ≡ loop_of (chunk_in x) ip target (state_of x.locals s) (sheets_of h₁ bl) →
+      around : (end : ℕ) (l : Result AnyLeft) → l ≡ loop_of (chunk_in x) ip target (state_of x.locals.count s) (sheets_of h₁ bl) →
           (l >>= λ (y : AnyLeft). full (chunk_in x) target end floor y.state b y.sheets) ≡ visit_in x ip end floor p (loop_to target)
       unfolding walk_instr loop_of is_quiet
       around end l P =
           ap (λ (z : Result AnyLeft). z >>= λ (y : AnyLeft). full (chunk_in x) target end floor y.state b y.sheets)
-          (P ∙ ap (loop_of (chunk_in x) ip target (state_of x.locals s)) (quiet_mark x ip s h bl h₁ there refl m))
+          (P ∙ ap (loop_of (chunk_in x) ip target (state_of x.locals.count s)) (quiet_mark x ip s h bl h₁ there refl m))
 
-      pub loop_left : (u : AnyState) (sh : Sheets) → ok (record { state = u; sheets = sh }) ≡ loop_of (chunk_in x) ip target (state_of x.locals s) (sheets_of h₁ bl) →
+      pub loop_left : (u : AnyState) (sh : Sheets) → ok (record { state = u; sheets = sh }) ≡ loop_of (chunk_in x) ip target (state_of x.locals.count s) (sheets_of h₁ bl) →
           Visits x ip floor p (loop_to target) (Ok (Some target)) (record { state = u; breaks = b; sheets = sh })
       unfolding ◌>>=◌
       loop_left u sh P end I =
           let inner : target - 1 < end = loop_rule.2 I.from end I.arm I.after I.below in
           record { walked = around end _ P; goes = (omega (arith, loop_rule.0), omega (arith, loop_rule.0)) }
 
-      pub loop_refused : (f : Refusal) (q : Standing) → refused (fields f) ≡ loop_of (chunk_in x) ip target (state_of x.locals s) (sheets_of h₁ bl) →
+      pub loop_refused : (f : Refusal) (q : Standing) → refused (fields f) ≡ loop_of (chunk_in x) ip target (state_of x.locals.count s) (sheets_of h₁ bl) →
           Visits x ip floor p (loop_to target) (Err f) q
       unfolding ◌>>=◌
       loop_refused f q P end I = record { walked = around end _ P; goes = tt }

@@ -5,7 +5,7 @@ use Prim.Native.Nat.{ℕ, suc, ◌+◌, ◌-◌, ◌≤◌, ◌<◌}
 use native.Mathlib.Omega.{arith}
 use native.Mathlib.Numerals.{add-one}
 use lib.ListN.{length}
-use Rattle.std.specs.Prelude.{Result as Outcome, Ok, Err}
+use Rattle.std.specs.Prelude.{Result as Outcome, Ok, Err, MatchResult, IsErrAnd}
 use Rattle.definition.specs.Basics.{Result, ok, refused, ◌>>=◌}
 use Rattle.definition.specs.Instructions.{Chunk}
 use Rattle.definition.specs.Walk.{State as AnyState, Walked, no_break, params, start_locals, start, walk_chunk}
@@ -17,7 +17,8 @@ use Rattle.bytecode.specs.Meaning.{chunk_of, table_chunks, count, first_op, op_c
 use Rattle.rules.specs.declared.chunk.Context.{Context}
 use Rattle.rules.specs.Answers.{chunk_in}
 use Rattle.answer.specs.declared.Refusal.{Refusal}
-use Rattle.answer.specs.Answer.{fields, with_chunk, numbers}
+use Rattle.answer.specs.declared.Refused.{Refused}
+use Rattle.answer.specs.Answer.{fields, with_chunk, numbers, refused_numbers}
 use Rattle.stretch.specs.Stretch.{sheets_of}
 use Rattle.blocks.specs.declared.Flow.{Flow}
 use Rattle.blocks.specs.Outcomes.{Standing, walked_of}
@@ -29,10 +30,10 @@ module _ (t h b : List ℕ) (k : ℕ) (R : Roomy t h b k) (x : Context) (T : x.t
   of_chunk : {A : Type 0} (f : List ℕ → ℕ → A) → f x.tables.now x.chunk ≡ f t k
   of_chunk f = ap (λ (l : List ℕ). f l x.chunk) T ∙ ap (f t) K
 
-  pub chunk_ready : Ready x h b 0 x.count 0
+  pub chunk_ready : Ready x h b 0 x.code.count 0
   chunk_ready =
-      let first : x.first ≡ first_op t k = x.of.first_is ∙ of_chunk first_op in
-      let count : x.count ≡ op_count t k = x.of.count_is ∙ of_chunk op_count in
+      let first : x.code.first ≡ first_op t k = x.of.first_is ∙ of_chunk first_op in
+      let count : x.code.count ≡ op_count t k = x.of.count_is ∙ of_chunk op_count in
       record {
         placed =
             record {
@@ -45,22 +46,21 @@ module _ (t h b : List ℕ) (k : ℕ) (R : Roomy t h b k) (x : Context) (T : x.t
         after = omega arith;
         before = omega arith;
         inside = omega arith;
-        floor_low = omega arith;
       }
 
-  pub chunk_walked : (m : Result Walked) (S : AnyState) → S ≡ record { stack = []; locals = start_locals x.locals (params (chunk_of t k)) } →
-      m ≡ full (chunk_in x) 0 x.count 0 S no_break (sheets_of h b) → m ≡ walk_chunk (chunk_of t k) (sheets_of h b)
+  pub chunk_walked : (m : Result Walked) (S : AnyState) → S ≡ record { stack = []; locals = start_locals x.locals.count (params (chunk_of t k)) } →
+      m ≡ full (chunk_in x) 0 x.code.count 0 S no_break (sheets_of h b) → m ≡ walk_chunk (chunk_of t k) (sheets_of h b)
   unfolding start
   chunk_walked m S e w =
       let c : Chunk = chunk_of t k in
       w
-      ∙ ap (λ (z : AnyState). full (chunk_in x) 0 x.count 0 z no_break (sheets_of h b)) e
-      ∙ ap (λ (d : Chunk). full d 0 x.count 0 (record { stack = []; locals = start_locals x.locals (params c) }) no_break (sheets_of h b)) (of_chunk chunk_of)
-      ∙ ap (λ (m : ℕ). full c 0 x.count 0 (record { stack = []; locals = start_locals m (params c) }) no_break (sheets_of h b)) (x.of.locals_is ∙ of_chunk locals_at ∙ sym (chunk_locals t k))
+      ∙ ap (λ (z : AnyState). full (chunk_in x) 0 x.code.count 0 z no_break (sheets_of h b)) e
+      ∙ ap (λ (d : Chunk). full d 0 x.code.count 0 (record { stack = []; locals = start_locals x.locals.count (params c) }) no_break (sheets_of h b)) (of_chunk chunk_of)
+      ∙ ap (λ (m : ℕ). full c 0 x.code.count 0 (record { stack = []; locals = start_locals m (params c) }) no_break (sheets_of h b)) (x.of.locals_is ∙ of_chunk locals_at ∙ sym (chunk_locals t k))
       ∙ ap (λ (m : ℕ). full c 0 m 0 (record { stack = []; locals = start_locals c.locals (params c) }) no_break (sheets_of h b)) (x.of.count_is ∙ of_chunk op_count ∙ sym (code_length t k))
       ∙ sym (chunk_full c (sheets_of h b))
 
-  pub locals_are : x.locals ≡ locals_at t k
+  pub locals_are : x.locals.count ≡ locals_at t k
   locals_are = x.of.locals_is ∙ of_chunk locals_at
 
 -- ── All chunks ────────────────────────────────────────────────────────────────────────────
@@ -79,6 +79,20 @@ walked_none t h b =
       blinds_same = refl;
       on = ap (λ (n : ℕ). walk_all 0 (tabulate 0 n (chunk_of t)) (sheets_of h b)) (let q : count t 7 ≡ count t 7 - 0 = omega arith in q);
     }
+
+-- a refusal gets the number of its chunk
+abbrev pub Told : ℕ → Outcome Flow Refusal → Outcome Flow Refused → Type 0
+Told k r m = MatchResult r (λ x. m ≡ Ok x) (λ f. IsErrAnd m (λ d. d ≡ record { chunk = k; refusal = f }))
+
+told_ok : (k : ℕ) (r : Outcome Flow Refusal) (m : Outcome Flow Refused) (a : Flow) → Told k r m → m ≡ Ok a → r ≡ Ok a
+told_ok k (Ok x) m a w e = cc
+told_ok k (Err f) (Ok x) a w e = absurd w
+told_ok k (Err f) (Err d) a w e = absurd (cc)
+
+told_err : (k : ℕ) (r : Outcome Flow Refusal) (m : Outcome Flow Refused) (d : Refused) → Told k r m → m ≡ Err d → (f : Refusal) × (r ≡ Err f) × (d ≡ record { chunk = k; refusal = f })
+told_err k (Ok x) m d w e = absurd (cc)
+told_err k (Err f) (Ok x) d w e = absurd w
+told_err k (Err f) (Err c) d w e = (f, refl, cc)
 
 module _ (t h₀ b₀ h b : List ℕ) (k : ℕ) (W : WalkedTo t h₀ b₀ h b k) (below : k < count t 7) (r : Outcome Flow Refusal) (q : Standing)
     (C : walked_of r q ≡ walk_chunk (chunk_of t k) (sheets_of h b)) where
@@ -114,6 +128,14 @@ module _ (t h₀ b₀ h b : List ℕ) (k : ℕ) (W : WalkedTo t h₀ b₀ h b k)
             ∙ ap (λ (z : Outcome Flow Refusal). in_chunk k (walked_of z q) >>= λ (w : Walked). walk_all (suc k) (tabulate (suc k) (count t 7 - (k + 1)) (chunk_of t)) w.sheets) z
             ∙ ap (λ (n : ℕ). walk_all n (tabulate n (count t 7 - (k + 1)) (chunk_of t)) q.sheets) (sym (add-one k));
       }
+
+  -- and so with the number of the chunk
+  module _ (m : Outcome Flow Refused) (w : Told k r m) where
+    pub told_refused : (d : Refused) → m ≡ Err d → refused (refused_numbers d) ≡ walk_all 0 (table_chunks t) (sheets_of h₀ b₀)
+    told_refused d e = let z = told_err k r m d w e in rw z.2 (walked_refused z.0 z.1)
+
+    pub told_more : (a : Flow) → m ≡ Ok a → length q.sheets.heights ≡ length h → length q.sheets.blinds ≡ length b → WalkedTo t h₀ b₀ q.sheets.heights q.sheets.blinds (k + 1)
+    told_more a e = walked_more a (told_ok k r m a w e)
 
 pub walked_all : (t h₀ b₀ h b : List ℕ) (k : ℕ) → count t 7 ≤ k → WalkedTo t h₀ b₀ h b k → ok (sheets_of h b) ≡ walk_all 0 (table_chunks t) (sheets_of h₀ b₀)
 unfolding walk_all tabulate

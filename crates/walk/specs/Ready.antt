@@ -1,13 +1,14 @@
 -- What the walkers ask of their arguments, and what they walk.
 use Rattle.std.specs.Prelude.{◌≡◌, List, ℕ, suc, ◌+◌, ◌-◌, ◌≤◌, ◌<◌, length, Option as Maybe, Some, None, Result as Outcome, Ok, Err}
 use Rattle.definition.specs.Basics.{Result, ok, refused}
-use Rattle.definition.specs.Instructions.{Control}
-use Rattle.definition.specs.Walk.{State as AnyState, Sheets, Walked, Left as AnyLeft, no_break, walk_arms, walk_chunk}
+use Rattle.definition.specs.Instructions.{Control, loop_to}
+use Rattle.definition.specs.Walk.{State as AnyState, Sheets, Breaks as AnyBreaks, Walked, Left as AnyLeft, no_break, walk_arms, walk_chunk}
 use Rattle.definition.specs.Nesting.{else_at}
 use Rattle.theorems.specs.Fuel.{full}
 use Rattle.theorems.specs.Nested.{Arm, Nested}
 use Rattle.bytecode.specs.Meaning.{chunk_of, first_op, op_count, locals_at}
 use Rattle.frame.specs.declared.State.{State}
+use Rattle.frame.specs.Model.{state_of}
 use Rattle.rules.specs.declared.chunk.Context.{Context}
 use Rattle.rules.specs.Answers.{chunk_in}
 use Rattle.answer.specs.declared.Refusal.{Refusal}
@@ -16,7 +17,8 @@ use Rattle.answer.specs.Answer.{refused_numbers}
 use Rattle.stretch.specs.Stretch.{sheets_of}
 use Rattle.blocks.specs.declared.Flow.{Flow}
 use Rattle.blocks.specs.declared.Breaks.{Breaks}
-use Rattle.blocks.specs.Outcomes.{Standing, standing, walked_of, rest_of, after_last, forgotten}
+use Rattle.blocks.specs.declared.visiting.Visit.{Visit}
+use Rattle.blocks.specs.Outcomes.{Standing, standing, within, walked_of, rest_of, left_of, loop_of, after_last, forgotten}
 use Rattle.blocks.specs.Visits.{Placed, visit_in}
 
 -- A stretch of a nested chunk: from ip on to the end of an arm, over a loop's floor.
@@ -26,8 +28,7 @@ pub record Ready (x : Context) (heights blinds : List ℕ) (ip end floor : ℕ) 
   pub arm : Arm (chunk_in x) from end
   pub after : from ≤ ip
   pub before : ip ≤ end
-  pub inside : end ≤ x.count
-  pub floor_low : floor ≤ 64
+  pub inside : end ≤ x.code.count
 
 -- the walk of a stretch
 abbrev pub Walks : Context → ℕ → ℕ → ℕ → Standing → Outcome Flow Refusal → Standing → Type 0
@@ -55,6 +56,14 @@ pub record Rests (x : Context) (ip end floor : ℕ) (walk : Result Walked) (r : 
 abbrev pub Visits : Context → ℕ → ℕ → Standing → Control → Outcome (Maybe ℕ) Refusal → Standing → Type 0
 Visits x ip floor p k r q = (end : ℕ) → In x ip end → Rests x ip end floor (visit_in x ip end floor p k) r q
 
+-- the same of a visit, and of that of a loop, whatever the floor and the breaks around it
+abbrev pub Sees : Visit → Standing → Control → Outcome (Maybe ℕ) Refusal → Standing → Type 0
+Sees v p k r q = Visits v.x.now v.ip v.floor.height p k r q
+
+abbrev pub Loops : Visit → State → List ℕ → List ℕ → Outcome (Maybe ℕ) Refusal → State → List ℕ → List ℕ → Type 0
+Loops v s h b r s' h' b' =
+    (floor : ℕ) (k : AnyBreaks) → Visits v.x.now v.ip floor (within v.x.now.locals.count k s h b) (loop_to v.target) r (within v.x.now.locals.count k s' h' b')
+
 -- the arms of the If at ip
 abbrev pub Arms : Context → ℕ → ℕ → ℕ → Standing → Outcome (Maybe ℕ) Refusal → Standing → Type 0
 Arms x target ip floor p r q =
@@ -66,6 +75,16 @@ last_from x ip exit floor head sh = after_last ip head (full (chunk_in x) (suc i
 
 abbrev pub last_in : Context → ℕ → ℕ → ℕ → AnyState → Sheets → Result AnyLeft
 last_in x ip exit floor head sh = last_from x ip exit floor (forgotten (chunk_in x) (suc ip) (exit - 1) head) sh
+
+-- what the passes over the loop of a visit leave, and what they are
+abbrev pub left_at : Visit → Outcome Unit Refusal → State → List ℕ → List ℕ → Result AnyLeft
+left_at v r s h b = left_of r (state_of v.x.now.locals.count s) (sheets_of h b)
+
+abbrev pub looped_at : Visit → State → List ℕ → List ℕ → Result AnyLeft
+looped_at v s h b = loop_of (chunk_in v.x.now) v.ip v.target (state_of v.x.now.locals.count s) (sheets_of h b)
+
+abbrev pub last_at : Visit → State → List ℕ → List ℕ → Result AnyLeft
+last_at v head h b = last_in v.x.now v.ip v.target v.floor.height (state_of v.x.now.locals.count head) (sheets_of h b)
 
 -- A nested chunk with room for its instructions in both sheets.
 pub record Roomy (t heights blinds : List ℕ) (k : ℕ) : Type 0 where

@@ -1,31 +1,30 @@
 // The walk of chunks over the tables: the stretch walker and the loop walker, which call each other. The state is lent, and so are the breaks of the loop around; a walker of
-// arms or of a loop keeps what it needs again. The sheets are two lent slices and no struct of two: each contract would have to say that its borrows are at exit the same two.
+// arms or of a loop keeps what it needs again. The sheets are two lent slices and no struct of two: each contract would have to say that its borrows are at exit the same two. The
+// same holds of the sheets with the state and the breaks; what is only read goes on as one `Visit`. `Placed` stands in each walker's contract for the same reason: it speaks
+// of the chunk and of both lent sheets.
 #![tactic(auto)]
 
 ghost use Rattle.std.specs.Prelude.{◌≡◌, false, ◌+◌, ◌≤◌, ◌<◌, ℕ};
 ghost use Rattle.std.proofs.Math.Option.{none, some};
-ghost use Rattle.definition.specs.Instructions.{if_to, loop_to, control};
+ghost use Rattle.definition.specs.Instructions.{if_to, loop_to};
 ghost use Rattle.definition.specs.Nesting.{else_at};
 ghost use Rattle.definition.specs.Check.{walk_all};
-ghost use Rattle.definition.specs.Walk.{Breaks as AnyBreaks};
 ghost use Rattle.bytecode.specs.Meaning.{table_chunks, count};
-ghost use Rattle.frame.specs.declared.TheConstants.{OPERANDS};
-ghost use Rattle.frame.specs.Model.{state_of};
 ghost use Rattle.rules.specs.Answers.{chunk_in};
 ghost use Rattle.stretch.specs.Stretch.{straight, sheets_of, leads};
-ghost use Rattle.blocks.specs.Outcomes.{within, standing, left_of, loop_of};
-ghost use Rattle.blocks.specs.Visits.{Placed, Coded, instr_in, onward_of};
-ghost use Rattle.walk.specs.Ready.{Ready, Walks, Visits, Arms, last_in, Roomy, WalkedChunk, results_of};
+ghost use Rattle.blocks.specs.Visits.{Placed, Coded, Leads, falling_to, stands};
+ghost use Rattle.walk.specs.Ready.{Ready, Walks, Sees, Loops, Arms, left_at, looped_at, last_at, Roomy, WalkedChunk, results_of};
 
 use answer::{Refusal, Refused};
-use blocks::{Breaks, Flow, Pending};
-use bytecode::{Span, code};
-use frame::Frame;
+use blocks::{Breaks, Flow, Pending, Visit};
+use bytecode::code;
+use frame::{Floor, Frame};
 use rules::Context;
+use std::ops::Range;
 
 // Where a walk goes on that falls through to a place.
 fn onward(flow: Flow, next: usize) -> Option<usize>
-    ensures { result ≡ onward_of flow next }
+    ensures { result ≡ falling_to flow next }
 {
     match flow {
         Flow::Ended => None,
@@ -33,7 +32,7 @@ fn onward(flow: Flow, next: usize) -> Option<usize>
     }
 }
 
-// The walk of the instructions from start to before end. A path that comes to the end falls through.
+// The walk of the instructions of a range. A path that comes to its end falls through.
 #[cycle(walkers)]
 fn interp_region(
     x: &Context,
@@ -41,22 +40,27 @@ fn interp_region(
     blinds: &mut [u8],
     s: &mut Frame,
     b: &mut Breaks,
-    start: usize,
-    end: usize,
-    floor: usize,
+    ips: Range<usize>,
+    floor: Floor,
 ) -> Result<Flow, Refusal>
-    requires { Ready x.now heights.old blinds.old start end floor }
-    ensures { Walks x.now start end floor (standing x.now.locals s.old.state b.old heights.old blinds.old) result (standing x.now.locals s.new.state b.new heights.new blinds.new) }
+    requires { Ready x.now heights.old blinds.old ips.start ips.end floor.height }
+    ensures { Walks x.now ips.start ips.end floor.height (stands x.now s.old.state b.old heights.old blinds.old) result (stands x.now s.new.state b.new heights.new blinds.new) }
 {
-    let mut ip = start;
+    let mut ip = ips.start;
     // A block leads on to where it ends, so this counts nothing.
-    while ip < end {
-        let i = bytecode::instr_at(x.tables, x.first + ip);
+    while ip < ips.end {
+        let i = bytecode::instr_at(x.tables, x.code.first + ip);
         if stretch::is_straight(i.code) {
-            ip = stretch::step(x, heights, blinds, s, ip, end, floor)?;
+            ip = stretch::step(x, heights, blinds, s, ip..ips.end, floor)?;
         } else {
             let target = i.a as usize;
-            let Some(next) = block_at(x, heights, blinds, s, b, i.code, target, ip, floor)? else {
+            let v = Visit {
+                x,
+                ip,
+                target,
+                floor,
+            };
+            let Some(next) = block_at(&v, heights, blinds, s, b, i.code)? else {
                 return Ok(Flow::Ended);
             };
             ip = next;
@@ -65,29 +69,27 @@ fn interp_region(
     Ok(Flow::Falls)
 }
 
-// The instruction at ip that does not simply lead onward, with the blocks that it opens: where the walk goes on, or none where its path ends.
+// The instruction at ip that does not simply lead onward, with the blocks that it opens: where the walk goes on, or none where its path ends. It is found by its code, as
+// bytecode `code` says why.
 #[cycle(walkers)]
 fn block_at(
-    x: &Context,
+    v: &Visit,
     heights: &mut [u8],
     blinds: &mut [u8],
     s: &mut Frame,
     b: &mut Breaks,
     code: u8,
-    target: usize,
-    ip: usize,
-    floor: usize,
 ) -> Result<Option<usize>, Refusal>
-    requires placed { Placed x.now heights.old blinds.old }
-    requires inside { (ip < x.now.count) × (floor ≤ OPERANDS) × (code < 75) × (straight code ≡ false) × Coded x.now ip code target }
-    ensures { Visits x.now ip floor (standing x.now.locals s.old.state b.old heights.old blinds.old) (leads code target) result (standing x.now.locals s.new.state b.new heights.new blinds.new) }
+    requires placed { Placed v.now.x.now heights.old blinds.old }
+    requires here { (code < 75) × (straight code ≡ false) × Coded v.now.x.now v.now.ip code v.now.target }
+    ensures { let x = v.now.x.now in Sees v.now (stands x s.old.state b.old heights.old blinds.old) (leads code v.now.target) result (stands x s.new.state b.new heights.new blinds.new) }
 {
     match code {
-        code::LOOP => loop_at(x, heights, blinds, s, target, ip),
-        code::IF => if_at(x, heights, blinds, s, b, target, ip, floor),
+        code::LOOP => loop_at(v, heights, blinds, s),
+        code::IF => if_at(v, heights, blinds, s, b),
         _ => {
-            let flow = blocks::leaf_at(x, heights, s, b, code, ip, floor)?;
-            Ok(onward(flow, ip + 1))
+            let flow = blocks::leaf_at(v, heights, s, b, code)?;
+            Ok(onward(flow, v.ip + 1))
         }
     }
 }
@@ -95,49 +97,51 @@ fn block_at(
 // An If: its condition, then its arms.
 #[cycle(walkers)]
 fn if_at(
-    x: &Context,
+    v: &Visit,
     heights: &mut [u8],
     blinds: &mut [u8],
     s: &mut Frame,
     b: &mut Breaks,
-    target: usize,
-    ip: usize,
-    floor: usize,
 ) -> Result<Option<usize>, Refusal>
-    requires placed { Placed x.now heights.old blinds.old }
-    requires inside { (ip < x.now.count) × (floor ≤ OPERANDS) × (control (instr_in x.now ip) ≡ if_to target) }
-    ensures { Visits x.now ip floor (standing x.now.locals s.old.state b.old heights.old blinds.old) (if_to target) result (standing x.now.locals s.new.state b.new heights.new blinds.new) }
+    requires placed { Placed v.now.x.now heights.old blinds.old }
+    requires here { Leads v.now (if_to v.now.target) }
+    ensures { let x = v.now.x.now in Sees v.now (stands x s.old.state b.old heights.old blinds.old) (if_to v.now.target) result (stands x s.new.state b.new heights.new blinds.new) }
 {
-    blocks::guard_at(heights, x.first + ip, 1, ip, floor, s.state.height)?;
+    let Visit {
+        x,
+        ip,
+        target,
+        floor,
+    } = *v;
+    blocks::guard_at(heights, x.code.first + ip, 1, ip, floor, s.state.height)?;
     s.pop();
-    let chunk = Span {
-        first: x.first,
-        count: x.count,
-    };
-    match blocks::else_of(x.tables, chunk, ip, target) {
-        None => one_arm(x, heights, blinds, s, b, target, ip, floor),
-        Some(closer) => two_arms(x, heights, blinds, s, b, target, closer, ip, floor),
+    match blocks::else_of(x.tables, x.code, ip, target) {
+        None => one_arm(v, heights, blinds, s, b),
+        Some(closer) => two_arms(v, heights, blinds, s, b, closer),
     }
 }
 
 // The arm of an If without Else, joined with the state that passes it by.
 #[cycle(walkers)]
 fn one_arm(
-    x: &Context,
+    v: &Visit,
     heights: &mut [u8],
     blinds: &mut [u8],
     s: &mut Frame,
     b: &mut Breaks,
-    target: usize,
-    ip: usize,
-    floor: usize,
 ) -> Result<Option<usize>, Refusal>
-    requires placed { Placed x.now heights.old blinds.old }
-    requires inside { (ip < x.now.count) × (floor ≤ OPERANDS) × (control (instr_in x.now ip) ≡ if_to target) × (none ≡ else_at (chunk_in x.now) ip target) }
-    ensures { Arms x.now target ip floor (standing x.now.locals s.old.state b.old heights.old blinds.old) result (standing x.now.locals s.new.state b.new heights.new blinds.new) }
+    requires placed { Placed v.now.x.now heights.old blinds.old }
+    requires here { Leads v.now (if_to v.now.target) × (none ≡ else_at (chunk_in v.now.x.now) v.now.ip v.now.target) }
+    ensures { let x = v.now.x.now in Arms x v.now.target v.now.ip v.now.floor.height (stands x s.old.state b.old heights.old blinds.old) result (stands x s.new.state b.new heights.new blinds.new) }
 {
+    let Visit {
+        x,
+        ip,
+        target,
+        floor,
+    } = *v;
     let passed = *s;
-    let flow = interp_region(x, heights, blinds, s, b, ip + 1, target, floor)?;
+    let flow = interp_region(x, heights, blinds, s, b, ip + 1..target, floor)?;
     let met = blocks::join_ends(s, &passed, flow, Flow::Falls, ip, x.locals)?;
     Ok(onward(met, target + 1))
 }
@@ -145,80 +149,90 @@ fn one_arm(
 // The arms of an If with an Else, whose EndIf is the closer; the breaks of the first go on into the second.
 #[cycle(walkers)]
 fn two_arms(
-    x: &Context,
+    v: &Visit,
     heights: &mut [u8],
     blinds: &mut [u8],
     s: &mut Frame,
     b: &mut Breaks,
-    target: usize,
     closer: usize,
-    ip: usize,
-    floor: usize,
 ) -> Result<Option<usize>, Refusal>
-    requires placed { Placed x.now heights.old blinds.old }
-    requires inside { (ip < x.now.count) × (floor ≤ OPERANDS) × (control (instr_in x.now ip) ≡ if_to target) × (some closer ≡ else_at (chunk_in x.now) ip target) }
-    ensures { Arms x.now target ip floor (standing x.now.locals s.old.state b.old heights.old blinds.old) result (standing x.now.locals s.new.state b.new heights.new blinds.new) }
+    requires placed { Placed v.now.x.now heights.old blinds.old }
+    requires here { Leads v.now (if_to v.now.target) × (some closer ≡ else_at (chunk_in v.now.x.now) v.now.ip v.now.target) }
+    ensures { let x = v.now.x.now in Arms x v.now.target v.now.ip v.now.floor.height (stands x s.old.state b.old heights.old blinds.old) result (stands x s.new.state b.new heights.new blinds.new) }
 {
+    let Visit {
+        x,
+        ip,
+        target,
+        floor,
+    } = *v;
     let mut other = *s;
-    let first = interp_region(x, heights, blinds, s, b, ip + 1, target - 1, floor)?;
-    let second = interp_region(x, heights, blinds, &mut other, b, target, closer, floor)?;
+    let first = interp_region(x, heights, blinds, s, b, ip + 1..target - 1, floor)?;
+    let second = interp_region(x, heights, blinds, &mut other, b, target..closer, floor)?;
     let met = blocks::join_ends(s, &other, first, second, ip, x.locals)?;
     Ok(onward(met, closer + 1))
 }
 
-// The loop at ip: examined without a test, then the passes over its body, with breaks of its own.
+// A loop: examined without a test, then the passes over its body, with breaks of its own.
 #[cycle(walkers)]
 fn loop_at(
-    x: &Context,
+    v: &Visit,
     heights: &mut [u8],
     blinds: &mut [u8],
     s: &mut Frame,
-    target: usize,
-    ip: usize,
 ) -> Result<Option<usize>, Refusal>
-    requires placed { Placed x.now heights.old blinds.old }
-    requires inside { (ip < x.now.count) × (control (instr_in x.now ip) ≡ loop_to target) }
-    ensures { (floor : ℕ) (k : AnyBreaks) → Visits x.now ip floor (within x.now.locals k s.old.state heights.old blinds.old) (loop_to target) result (within x.now.locals k s.new.state heights.new blinds.new) }
+    requires placed { Placed v.now.x.now heights.old blinds.old }
+    requires here { Leads v.now (loop_to v.now.target) }
+    ensures { Loops v.now s.old.state heights.old blinds.old result s.new.state heights.new blinds.new }
 {
     let mut inner = Breaks::new();
-    blocks::mark_height(heights, x.first + ip, s.state.height);
-    passes_at(x, heights, blinds, s, &mut inner, ip, target)?;
-    Ok(Some(target))
+    stretch::mark_height(heights, v.x.code.first + v.ip, s.state.height);
+    passes_at(v, heights, blinds, s, &mut inner)?;
+    Ok(Some(v.target))
 }
 
-// The passes over the body of the loop at ip: the head is stable, the body has no end, or the last pass is made.
+// The passes over the body of a loop: the head is stable, the body has no end, or the last pass is made. A `loop` that counts down: 01 asks for passes left by labelled
+// breaks with what they yield, and a `for` yields nothing.
 #[tactic(auto, using(crate::proofs::Cycle::passing_start))]
 #[cycle(walkers)]
 fn passes_at(
-    x: &Context,
+    v: &Visit,
     heights: &mut [u8],
     blinds: &mut [u8],
     s: &mut Frame,
     b: &mut Breaks,
-    ip: usize,
-    exit: usize,
 ) -> Result<(), Refusal>
-    requires placed { Placed x.now heights.old blinds.old }
-    requires inside { (ip + 1 < exit) × (exit ≤ x.now.count) × (control (instr_in x.now ip) ≡ loop_to exit) }
-    ensures { left_of result (state_of x.now.locals s.new.state) (sheets_of heights.new blinds.new) ≡ loop_of (chunk_in x.now) ip exit (state_of x.now.locals s.old.state) (sheets_of heights.old blinds.old) }
+    requires placed { Placed v.now.x.now heights.old blinds.old }
+    requires inside { (v.now.ip + 1 < v.now.target) × (v.now.target ≤ v.now.x.now.code.count) × Leads v.now (loop_to v.now.target) }
+    ensures { left_at v.now result s.new.state heights.new blinds.new ≡ looped_at v.now s.old.state heights.old blinds.old }
 {
-    let floor = s.state.height;
+    let Visit { x, ip, target, .. } = *v;
+    // Its body is walked over a floor of its own.
+    let floor = Floor {
+        height: s.state.height,
+    };
     let mut head = *s;
-    let mut left = x.locals + 2;
+    let mut left = x.locals.count + 2;
     'passes: loop {
         b.pending = Pending::Nothing;
-        let flow = interp_region(x, heights, blinds, s, b, ip + 1, exit - 1, floor)?;
+        let flow = interp_region(x, heights, blinds, s, b, ip + 1..target - 1, floor)?;
         let Flow::Falls = flow else {
             break 'passes blocks::leave_head(s, &head, b, ip, x.locals);
         };
         if !s.same_stack(&head.state) {
-            return Err(blocks::not_neutral(ip, floor, s.state.height));
+            return Err(blocks::not_neutral(ip, floor.height, s.state.height));
         }
         if head.state.covers_locals(&s.state, x.locals) {
             break 'passes blocks::leave_loop(s, b, ip, x.locals);
         }
         if left == 0 {
-            break 'passes last_pass(x, heights, blinds, s, b, &mut head, ip, exit, floor);
+            let last = Visit {
+                x,
+                ip,
+                target,
+                floor,
+            };
+            break 'passes last_pass(&last, heights, blinds, s, b, &mut head);
         }
         head.join_locals(&s.state, x.locals);
         s.copy(&head, x.locals);
@@ -226,31 +240,30 @@ fn passes_at(
     }
 }
 
-// The last pass over the body of the loop at ip, from a head in which each local that the body writes is forgotten first.
+// The last pass over the body of a loop, from a head in which each local that the body writes is forgotten first, and over the visit's floor.
 #[cycle(walkers)]
 pub fn last_pass(
-    x: &Context,
+    v: &Visit,
     heights: &mut [u8],
     blinds: &mut [u8],
     s: &mut Frame,
     b: &mut Breaks,
     head: &mut Frame,
-    ip: usize,
-    exit: usize,
-    floor: usize,
 ) -> Result<(), Refusal>
-    requires placed { Placed x.now heights.old blinds.old }
-    requires inside { (ip + 1 < exit) × (exit ≤ x.now.count) × (floor ≤ OPERANDS) × (control (instr_in x.now ip) ≡ loop_to exit) }
-    ensures { left_of result (state_of x.now.locals s.new.state) (sheets_of heights.new blinds.new) ≡ last_in x.now ip exit floor (state_of x.now.locals head.old.state) (sheets_of heights.old blinds.old) }
+    requires placed { Placed v.now.x.now heights.old blinds.old }
+    requires inside { (v.now.ip + 1 < v.now.target) × (v.now.target ≤ v.now.x.now.code.count) × Leads v.now (loop_to v.now.target) }
+    ensures { left_at v.now result s.new.state heights.new blinds.new ≡ last_at v.now head.old.state heights.old blinds.old }
 {
-    let chunk = Span {
-        first: x.first,
-        count: x.count,
-    };
-    blocks::invalidate_written_locals(x.tables, chunk, head, x.locals, ip + 1, exit - 1);
+    let Visit {
+        x,
+        ip,
+        target,
+        floor,
+    } = *v;
+    blocks::invalidate_written_locals(x.tables, x.code, head, x.locals, ip + 1..target - 1);
     s.copy(head, x.locals);
     b.pending = Pending::Nothing;
-    let flow = interp_region(x, heights, blinds, s, b, ip + 1, exit - 1, floor)?;
+    let flow = interp_region(x, heights, blinds, s, b, ip + 1..target - 1, floor)?;
     blocks::last_end(flow, s, head, b, ip, x.locals)
 }
 
@@ -269,22 +282,26 @@ pub fn walk_chunk(
     let mut s = Frame::new();
     let mut b = Breaks::new();
     blocks::start_locals(t, k, &mut s, x.locals);
-    interp_region(&x, heights, blinds, &mut s, &mut b, 0, x.count, 0)
+    interp_region(
+        &x,
+        heights,
+        blinds,
+        &mut s,
+        &mut b,
+        0..x.code.count,
+        Floor { height: 0 },
+    )
 }
 
 // The walk of all chunks: the first that is refused, with its number.
-#[tactic(auto, using(crate::proofs::Start::walked_none, crate::proofs::Start::walked_all, crate::proofs::Start::walked_refused), unfolding(crate::specs::Ready::results_of))]
+#[tactic(auto, using(crate::proofs::Start::walked_none, crate::proofs::Start::walked_all), unfolding(crate::specs::Ready::results_of))]
 pub fn walk_chunks(t: &[u64], heights: &mut [u8], blinds: &mut [u8]) -> Result<(), Refused>
     requires { (k : ℕ) → k < count t.now 7 → Roomy t.now heights.old blinds.old k }
     ensures { results_of result (sheets_of heights.new blinds.new) ≡ walk_all 0 (table_chunks t.now) (sheets_of heights.old blinds.old) }
 {
     for k in 0..bytecode::count(t, bytecode::CHUNKS) {
-        if let Err(refusal) = walk_chunk(t, heights, blinds, k) {
-            return Err(Refused {
-                chunk: k as u64,
-                refusal,
-            });
-        }
+        let chunk = k as u64;
+        walk_chunk(t, heights, blinds, k).map_err(|refusal| Refused { chunk, refusal })?;
     }
     Ok(())
 }

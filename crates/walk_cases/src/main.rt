@@ -8,9 +8,9 @@ ghost use Rattle.blocks.specs.Visits.{Placed, instr_in};
 ghost use Rattle.walk.specs.Ready.{Roomy};
 
 use answer::Refusal;
-use blocks::{Breaks, Flow};
+use blocks::{Breaks, Flow, Visit};
 use bytecode::{Instr, SIZE, code};
-use frame::Frame;
+use frame::{Floor, Frame};
 use rules::Context;
 use std::io;
 
@@ -68,13 +68,19 @@ fn last_pass(
     exit: usize,
 ) -> Result<(), Refusal>
     requires placed { Placed x.now heights.old blinds.old }
-    requires inside { (ip + 1 < exit) × (exit ≤ x.now.count) × (control (instr_in x.now ip) ≡ loop_to exit) }
+    requires inside { (ip + 1 < exit) × (exit ≤ x.now.code.count) × (control (instr_in x.now ip) ≡ loop_to exit) }
 {
     let mut s = Frame::new();
     let mut b = Breaks::new();
     let mut head = Frame::new();
     blocks::start_locals(x.tables, x.chunk, &mut head, x.locals);
-    walk::last_pass(x, heights, blinds, &mut s, &mut b, &mut head, ip, exit, 0)
+    let v = Visit {
+        x,
+        ip,
+        target: exit,
+        floor: Floor { height: 0 },
+    };
+    walk::last_pass(&v, heights, blinds, &mut s, &mut b, &mut head)
 }
 
 // The last pass over the loop at ip of chunk 0.
@@ -88,12 +94,12 @@ fn show_last(
     requires { Roomy t.now heights.old blinds.old 0 }
 {
     let x = Context::new(t, 0);
-    if x.count <= ip {
+    if x.code.count <= ip {
         return Ok(());
     }
-    let Instr { code, a, .. } = bytecode::instr_at(x.tables, x.first + ip);
+    let Instr { code, a, .. } = bytecode::instr_at(x.tables, x.code.first + ip);
     let exit = a as usize;
-    if code != code::LOOP || exit <= ip + 1 || x.count < exit {
+    if code != code::LOOP || exit <= ip + 1 || x.code.count < exit {
         return Ok(());
     }
     let outcome = match last_pass(&x, heights, blinds, ip, exit) {

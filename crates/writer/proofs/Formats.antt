@@ -31,25 +31,24 @@ letters_said (b ∷ x) cs ws h =
     rw (say, true_of (ltb b 128) (and_l (ltb b 128) (letters x) h))
     (ap (joined (some (b ∷ []))) (letters_said x cs ws (and_r (ltb b 128) (letters x) h)) ∙ sym (joined-joined (some (b ∷ [])) (some x) (say cs ws)))
 
-key_letters : (f : Form) → form_number f < 11 → T (letters (get_or (keys line_forms) (form_number f) []))
+key_letters : (f : Form) → T (letters (get_or (keys line_forms) (form_number f) []))
 unfolding letters keys key line_forms form bytes
-key_letters F.Module h = tt
-key_letters F.SharedSlot h = tt
-key_letters F.PrivateSlot h = tt
-key_letters F.Shared h = tt
-key_letters F.Private h = tt
-key_letters F.Enum h = tt
-key_letters F.Native h = tt
-key_letters F.Signature h = tt
-key_letters F.Chunk h = tt
-key_letters F.Constant h = tt
-key_letters F.Close h = tt
-key_letters (F.Op r) h = absurd (omega arith)
+key_letters F.Module = tt
+key_letters F.SharedSlot = tt
+key_letters F.PrivateSlot = tt
+key_letters F.Shared = tt
+key_letters F.Private = tt
+key_letters F.Enum = tt
+key_letters F.Native = tt
+key_letters F.Signature = tt
+key_letters F.Chunk = tt
+key_letters F.Constant = tt
+key_letters F.Close = tt
 
-pub puts_text : (a b : Text) (f : Form) (x cs all ws : List ℕ) → form_number f < 11 → x ≡ get_or (keys line_forms) (form_number f) [] → get_or (keys line_forms) (form_number f) [] ++ cs ≡ all →
+pub puts_text : (a b : Text) (f : Form) (x cs all ws : List ℕ) → x ≡ get_or (keys line_forms) (form_number f) [] → get_or (keys line_forms) (form_number f) [] ++ cs ≡ all →
     b ≡ with_text a x → Putting a b (say cs ws) (say all ws)
-puts_text a b f x cs all ws h e d w =
-    rw (← d, ← e) (putting_more (putting_start a (say (x ++ cs) ws)) (letters_said x cs ws (rw e (key_letters f h))) (puts_all a b x w))
+puts_text a b f x cs all ws e d w =
+    rw (← d, ← e) (putting_more (putting_start a (say (x ++ cs) ws)) (letters_said x cs ws (rw e (key_letters f))) (puts_all a b x w))
 
 -- ── The codes after it ────────────────────────────────────────────────────────────────────
 

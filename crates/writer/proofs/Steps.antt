@@ -1,5 +1,5 @@
 -- What each function puts of the tables, and what is left after each turn of its loop. Assumes nothing.
-use Rattle.std.proofs.Common.{◌≡◌, ◌≢◌, refl, sym, ap, ◌∙◌, Bool, true, false, ◌&&◌, List, [], ◌∷◌, ◌++◌, Some, None, ℕ, zero, suc, ◌+◌, ◌-◌, ◌≤◌, ◌<◌, leb, eqb, get_or, length, take, drop, arith, add-one, add-zero, drop-cons}
+use Rattle.std.proofs.Common.{◌≡◌, ◌≢◌, refl, sym, ap, ◌∙◌, Bool, true, false, ◌&&◌, List, [], ◌∷◌, ◌++◌, Some, None, ℕ, zero, suc, ◌+◌, ◌-◌, ◌≤◌, ◌<◌, leb, eqb, get_or, length, take, drop, arith, add-one, drop-cons}
 use Rattle.std.proofs.Math.Dec.{T, leb→le}
 use borrow.Author.Tests.{lt-ltb, le-ltb, ne_eqb}
 use Rattle.std.proofs.Math.ListN.{drop_of_length-le}
@@ -16,7 +16,6 @@ use Rattle.bytecode.specs.Names.{name_at}
 use Rattle.listing.specs.declared.form.Form.{Form}
 use Rattle.listing.specs.Forms.{form_number}
 use Rattle.listing.specs.Scan.{form_codes, max_code}
-use Rattle.listing.specs.OpRead.{maxima_end, maxima_here, maxima_short}
 use Rattle.text_out.specs.declared.Text.{Text}
 use Rattle.text_out.specs.Text.{with_text}
 use Rattle.text_out.proofs.Laws.{with_both}
@@ -94,50 +93,42 @@ module _ (float row : ℕ) (ws : List ℕ) where
   unfoldable pub operands_left : ℕ → Option Bytes
   operands_left j = operands_said float (drop j (maxima_of row)) (drop j ws)
 
-  pub operands_more : (j m : ℕ) → m ≡ get_or (maxima_of row) j 0 → m ≢ 0 → operands_left j ≡ joined (operand_said float m (get_or ws j 0)) (operands_left (j + 1))
+  pub operands_more : (j m w : ℕ) → j < length (maxima_of row) → m ≡ get_or (maxima_of row) j 0 → w ≡ get_or ws j 0 → operands_left j ≡ joined (operand_said float m w) (operands_left (j + 1))
   unfolding operands_left operands_said
-  operands_more j m e n =
-      ap (λ (ms : List ℕ). operands_said float ms (drop j ws)) (drop-cons (maxima_of row) j 0 (maxima_here row j (λ x. n (e ∙ x))))
+  operands_more j m w l e f =
+      ap (λ (ms : List ℕ). operands_said float ms (drop j ws)) (drop-cons (maxima_of row) j 0 l)
       ∙ ap (λ (l : List ℕ). joined (operand_said float (get_or (maxima_of row) j 0) (get_or (drop j ws) 0 0)) (operands_said float (drop (suc j) (maxima_of row)) l)) (one_fewer ws j)
-      ∙ ap (λ (w : ℕ). joined (operand_said float (get_or (maxima_of row) j 0) w) (operands_said float (drop (suc j) (maxima_of row)) (drop (suc j) ws))) (first-left ws j)
-      ∙ ap (λ (x : ℕ). joined (operand_said float x (get_or ws j 0)) (operands_said float (drop (suc j) (maxima_of row)) (drop (suc j) ws))) (sym e)
-      ∙ ap (λ (i : ℕ). joined (operand_said float m (get_or ws j 0)) (operands_said float (drop i (maxima_of row)) (drop i ws))) (sym (add-one j))
+      ∙ ap (λ (x : ℕ). joined (operand_said float (get_or (maxima_of row) j 0) x) (operands_said float (drop (suc j) (maxima_of row)) (drop (suc j) ws))) (first-left ws j ∙ sym f)
+      ∙ ap (λ (x : ℕ). joined (operand_said float x w) (operands_said float (drop (suc j) (maxima_of row)) (drop (suc j) ws))) (sym e)
+      ∙ ap (λ (i : ℕ). joined (operand_said float m w) (operands_said float (drop i (maxima_of row)) (drop i ws))) (sym (add-one j))
 
-  pub operands_end : (j m : ℕ) → row < 75 → m ≡ get_or (maxima_of row) j 0 → m ≡ 0 → operands_left j ≡ some []
+  pub operands_end : (j : ℕ) → length (maxima_of row) ≤ j → operands_left j ≡ some []
   unfolding operands_left operands_said
-  operands_end j m h e n = ap (λ (ms : List ℕ). operands_said float ms (drop j ws)) (maxima_end row j h (sym e ∙ n))
+  operands_end j l = ap (λ (ms : List ℕ). operands_said float ms (drop j ws)) (drop_of_length-le (maxima_of row) {i = j} l)
 
-  pub operands_past : (j : ℕ) → row < 75 → 3 ≤ j → operands_left j ≡ some []
-  unfolding operands_left operands_said
-  operands_past j h l =
-      ap (λ (ms : List ℕ). operands_said float ms (drop j ws)) (drop_of_length-le (maxima_of row) {i = j} (omega (arith, maxima_short row h)))
+module _ (a t : Text) (float row : ℕ) (ws : List ℕ) (j : ℕ) (whole : Option Bytes) (p : Putting a t (operands_left float row ws j) whole) where
+  pub puts_operands : length (maxima_of row) ≤ j → Puts a whole (Some tt) t
+  puts_operands l = putting_done p (operands_end float row ws j l)
 
-module _ (a t : Text) (float row : ℕ) (ws : List ℕ) (h : row < 75) (j m : ℕ) (e : m ≡ get_or (maxima_of row) j 0) (whole : Option Bytes) (p : Putting a t (operands_left float row ws j) whole) where
-  pub puts_last_operand : m ≡ 0 → Puts a whole (Some tt) t
-  puts_last_operand z = putting_done p (operands_end float row ws j m h e z)
-
-  module _ (n : m ≢ 0) where
-    pub puts_lacking : true ≡ (eqb m 7 && is_lacking float (get_or ws j 0)) → Puts a whole None t
+  module _ (m w : ℕ) (l : j < length (maxima_of row)) (e : m ≡ get_or (maxima_of row) j 0) (f : w ≡ get_or ws j 0) where
+    pub puts_lacking : true ≡ (eqb m 7 && is_lacking float w) → Puts a whole None t
     unfolding operand_said joined
-    puts_lacking l = putting_missing p (operands_more float row ws j m e n ∙ (rw (operand_said, sym l)))
+    puts_lacking y = putting_missing p (operands_more float row ws j m w l e f ∙ (rw (operand_said, sym y)))
 
-    module _ (c : ℕ) (l : false ≡ (eqb m 7 && is_lacking float (get_or ws j 0))) (d : c ≡ max_code m) (b : Text) where
-      known : operand_said float m (get_or ws j 0) ≡ number_said c (get_or ws j 0)
+    module _ (c : ℕ) (y : false ≡ (eqb m 7 && is_lacking float w)) (d : c ≡ max_code m) (b : Text) where
+      known : operand_said float m w ≡ number_said c w
       unfolding operand_said
-      known = rw (operand_said, ← l, d)
+      known = rw (operand_said, ← y, d)
 
-      pub puts_operand : Puts t (number_said c (get_or ws j 0)) (Some tt) b → Putting a b (operands_left float row ws (j + 1)) whole
-      puts_operand w = putting_more p (operands_more float row ws j m e n) (puts_same t b (sym known) w)
+      pub puts_operand : Puts t (number_said c w) (Some tt) b → Putting a b (operands_left float row ws (j + 1)) whole
+      puts_operand z = putting_more p (operands_more float row ws j m w l e f) (puts_same t b (sym known) z)
 
-      pub puts_lost_operand : Puts t (number_said c (get_or ws j 0)) None b → Puts a whole None b
-      puts_lost_operand w = putting_lost p _ (operands_more float row ws j m e n) (puts_same t b (sym known) w)
+      pub puts_lost_operand : Puts t (number_said c w) None b → Puts a whole None b
+      puts_lost_operand z = putting_lost p _ (operands_more float row ws j m w l e f) (puts_same t b (sym known) z)
 
 pub puts_operands_start : (a : Text) (float row j : ℕ) (ws : List ℕ) → j ≡ 0 → Putting a a (operands_left float row ws j) (operands_said float (maxima_of row) ws)
 unfolding operands_left
 puts_operands_start a float row j ws e = rw e (putting_start a (operands_left float row ws 0))
-
-pub puts_operands : (a t : Text) (float row : ℕ) (ws : List ℕ) (h : row < 75) (j : ℕ) (whole : Option Bytes) → Putting a t (operands_left float row ws j) whole → 3 ≤ j → Puts a whole (Some tt) t
-puts_operands a t float row ws h j whole p l = putting_done p (operands_past float row ws j h l)
 
 module _ (t : List ℕ) (i c : ℕ) (d : c ≡ cell t 9 i 0) (a : Text) where
   pub puts_no_op : 75 ≤ c → Puts a (entry_said t 9 i) None a
@@ -169,21 +160,21 @@ puts_entry t k i a b r n w = rw (entry_said, ne_eqb k 9 n) w
 
 module _ (t : List ℕ) (k first n : ℕ) where
   unfoldable pub rows_left : ℕ → Option Bytes
-  rows_left i = rows_said t k (first + i) (n - i)
+  rows_left i = rows_said t k i (first + n - i)
 
-  pub rows_whole : rows_said t k first n ≡ rows_left 0
+  pub rows_whole : rows_said t k first n ≡ rows_left first
   unfolding rows_left
-  rows_whole = ap (λ (x : ℕ). rows_said t k x n) (sym (add-zero first)) ∙ ap (rows_said t k (first + 0)) (let z : n ≡ n - 0 = omega arith in z)
+  rows_whole = ap (rows_said t k first) (let z : n ≡ first + n - first = omega arith in z)
 
-  pub rows_more : (i : ℕ) → i < n → rows_left i ≡ joined (entry_said t k (first + i)) (rows_left (i + 1))
+  pub rows_more : (i : ℕ) → i < first + n → rows_left i ≡ joined (entry_said t k i) (rows_left (i + 1))
   unfolding rows_left rows_said
   rows_more i h =
-      ap (rows_said t k (first + i)) (let z : n - i ≡ suc (n - (i + 1)) = omega arith in z)
-      ∙ ap (λ (x : ℕ). joined (entry_said t k (first + i)) (rows_said t k x (n - (i + 1)))) (let z : suc (first + i) ≡ first + (i + 1) = omega arith in z)
+      ap (rows_said t k i) (let z : first + n - i ≡ suc (first + n - (i + 1)) = omega arith in z)
+      ∙ ap (λ (x : ℕ). joined (entry_said t k i) (rows_said t k x (first + n - (i + 1)))) (sym (add-one i))
 
-  pub rows_end : (i : ℕ) → n ≤ i → rows_left i ≡ some []
+  pub rows_end : (i : ℕ) → first + n ≤ i → rows_left i ≡ some []
   unfolding rows_left rows_said
-  rows_end i h = ap (rows_said t k (first + i)) (let z : n - i ≡ 0 = omega arith in z)
+  rows_end i h = ap (rows_said t k i) (let z : first + n - i ≡ 0 = omega arith in z)
 
 module _ (t : List ℕ) where
   unfoldable pub tables_left : ℕ → Option Bytes
@@ -206,17 +197,17 @@ module _ (t : List ℕ) where
 
 module _ (a t : Text) (ts : List ℕ) (whole : Option Bytes) where
   module _ (k first n i : ℕ) where
-    pub puts_rows_start : i ≡ 0 → Putting a a (rows_left ts k first n i) (rows_said ts k first n)
+    pub puts_rows_start : i ≡ first → Putting a a (rows_left ts k first n i) (rows_said ts k first n)
     puts_rows_start e = rw (e, ← (rows_whole ts k first n)) (putting_start a (rows_said ts k first n))
 
     module _ (p : Putting a t (rows_left ts k first n i) whole) where
-      pub puts_row : (b : Text) → i < n → Puts t (entry_said ts k (first + i)) (Some tt) b → Putting a b (rows_left ts k first n (i + 1)) whole
+      pub puts_row : (b : Text) → i < first + n → Puts t (entry_said ts k i) (Some tt) b → Putting a b (rows_left ts k first n (i + 1)) whole
       puts_row b h w = putting_more p (rows_more ts k first n i h) w
 
-      pub puts_lost_row : (b : Text) → i < n → Puts t (entry_said ts k (first + i)) None b → Puts a whole None b
+      pub puts_lost_row : (b : Text) → i < first + n → Puts t (entry_said ts k i) None b → Puts a whole None b
       puts_lost_row b h w = putting_lost p _ (rows_more ts k first n i h) w
 
-      pub puts_rows : n ≤ i → Puts a whole (Some tt) t
+      pub puts_rows : first + n ≤ i → Puts a whole (Some tt) t
       puts_rows h = putting_done p (rows_end ts k first n i h)
 
   module _ (k : ℕ) where
@@ -359,7 +350,7 @@ pub ruleset line = (puts_no_line, puts_line, puts_lost_line)
 
 pub ruleset close = (puts_close, puts_lost_close)
 
-pub ruleset operands = (puts_operands_start, puts_operands, puts_operand, puts_lost_operand, puts_lacking, puts_last_operand)
+pub ruleset operands = (puts_operands_start, puts_operands, puts_operand, puts_lost_operand, puts_lacking)
 
 pub ruleset op = (puts_op, puts_lost_op, puts_no_op)
 

@@ -1,6 +1,6 @@
 -- Texts that are put one after another, of which some may be missing.
 use Rattle.std.specs.Prelude.{◌≡◌, refl, [], ◌++◌, ℕ, ◌≤◌, ◌<◌, length, drop, Option as CodeOption, Some, None}
-use Rattle.std.proofs.Common.{ap, append_assoc}
+use Rattle.std.proofs.Common.{ap, append_assoc, append-nil}
 use Rattle.std.proofs.Math.Option.{Option, none, some}
 use Rattle.definition.specs.Format.{Bytes}
 use Rattle.text_out.specs.declared.Text.{Text}
@@ -18,6 +18,16 @@ pub joined_nothing : (o : Option Bytes) → joined (some []) o ≡ o
 unfolding joined
 joined_nothing none = refl
 joined_nothing (some x) = refl
+
+pub nothing_joined : (o : Option Bytes) → joined o (some []) ≡ o
+unfolding joined
+nothing_joined none = refl
+nothing_joined (some x) = ap some (append-nil x)
+
+pub joined_none : (o : Option Bytes) → joined o none ≡ none
+unfolding joined
+joined_none none = refl
+joined_none (some x) = refl
 
 pub joined-joined : (o p q : Option Bytes) → joined (joined o p) q ≡ joined o (joined p q)
 unfolding joined

@@ -1,5 +1,5 @@
 -- The bytes that the words of tables are written as, by the reader's own codes of each line's form; none where a word says what no listing says there.
-use Rattle.std.specs.Prelude.{◌≡◌, ◌<◌, ◌≤◌, Bool, true, false, not, ◌&&◌, List, [], ◌∷◌, ◌++◌, ℕ, zero, suc, ◌+◌, leb, ltb, eqb, cond, get_or, drop, Option as CodeOption, Some, None}
+use Rattle.std.specs.Prelude.{◌≡◌, ◌≤◌, Bool, true, false, not, ◌&&◌, List, [], ◌∷◌, ◌++◌, ℕ, zero, suc, ◌+◌, leb, ltb, eqb, cond, get_or, drop, Option as CodeOption, Some, None}
 use Rattle.std.proofs.Math.Option.{Option, none, some}
 use Rattle.definition.specs.Basics.{choose}
 use Rattle.definition.specs.Shapes.{is_lacking}
@@ -74,10 +74,10 @@ row_form k head =
 unfoldable pub row_values : ℕ → ℕ → ℕ
 row_values k head = choose (eqb k 6) head (get_or (7 ∷ 0 ∷ 3 ∷ 2 ∷ 1 ∷ 1 ∷ 0 ∷ 1 ∷ 1 ∷ []) k 0)
 
--- A form and a number of values are those of the row's line, or it has none. A form's number is below 11, and the row has a word for each value.
+-- A form and a number of values are those of the row's line, or it has none. The row has a word for each value.
 abbrev pub Formed : ℕ → ℕ → CodeOption (Form × ℕ) → Type 0
 Formed k head None = row_form k head ≡ none
-Formed k head (Some r) = (row_form k head ≡ some (form_number r.0)) × (row_values k head ≡ r.1) × (form_number r.0 < 11) × (r.1 + 1 ≤ stride k)
+Formed k head (Some r) = (row_form k head ≡ some (form_number r.0)) × (row_values k head ≡ r.1) × (r.1 + 1 ≤ stride k)
 
 unfoldable pub line_said : List ℕ → ℕ → ℕ → Option Bytes
 line_said t k i = let head = cell t k i 0 in form_said (row_form k head) (cells t (row_at k i + 1) (row_values k head))

@@ -4,7 +4,6 @@
 #![tactic(auto)]
 
 ghost use Rattle.std.specs.Prelude.{◌≡◌, [], ◌+◌, ◌≤◌, ◌<◌, length, get_or};
-ghost use Rattle.std.proofs.Math.Option.{some};
 ghost use Rattle.definition.specs.Read.{line_forms};
 ghost use Rattle.definition.specs.Write.{shape_text};
 ghost use Rattle.definition.specs.Shapes.{scalar_w, flat_w};
@@ -21,13 +20,11 @@ ghost use Rattle.writer.specs.Say.{operands_said, entry_said, rows_said, tables_
 ghost use Rattle.writer.specs.Say.{counts_fit, is_headed, module_said};
 
 use answer::Refusal;
-use bytecode::{SIZE, Span, ops};
+use bytecode::ops::{OPERANDS, Row};
+use bytecode::{SIZE, Span, wire};
 use listing::form::Form;
 use listing::{sort, words};
 use text_out::Text;
-
-// The most bytes of a listing.
-const LONGEST: usize = 65536;
 
 // ---- shapes
 
@@ -60,23 +57,16 @@ fn put_flat(text: &mut Text, kind: u64, size: u64)
     text.bytes(&words::CLOSE);
 }
 
-// What the lowest 2 bits of a shape's word say; the next 8 are K, and the others SIZE.
-const TOP: u64 = 0;
-
-const SCALAR: u64 = 1;
-
-const FLAT: u64 = 2;
-
 #[tactic(auto, using(crate::proofs::Laws::shape), unfolding(definition::specs::Format::bytes))]
 fn put_shape(text: &mut Text, word: u64) -> Option<()>
     ensures { Puts text.old (shape_said word) result text.new }
 {
-    let kind = word / 4 % 256;
-    let size = word / 1024;
-    match word % 4 {
-        TOP if word == 0 => text.bytes(&words::TOP),
-        SCALAR if size == 0 => put_scalar(text, kind),
-        FLAT if listing::admits(sort::BITS_32, size) => put_flat(text, kind, size),
+    let kind = word / wire::KIND % wire::KINDS;
+    let size = word / wire::SIZE;
+    match word % wire::KIND {
+        wire::TOP if word == 0 => text.bytes(&words::TOP),
+        wire::SCALAR if size == 0 => put_scalar(text, kind),
+        wire::FLAT if listing::admits(sort::BITS_32, size) => put_flat(text, kind, size),
         _ => return None,
     }
     Some(())
@@ -105,10 +95,9 @@ fn put_value(text: &mut Text, code: u8, word: u64) -> Option<()>
     }
 }
 
-// The words by a form, but an op's.
+// The words by a form.
 #[tactic(auto, using(crate::proofs::Formats::forms))]
 fn put_form(text: &mut Text, form: Form, words: &[u64]) -> Option<()>
-    requires { form_number form < 11 }
     ensures { Puts text.old (say (get_or (form_codes line_forms) (form_number form) []) words.now) result text.new }
 {
     text.bytes(form.text());
@@ -185,34 +174,27 @@ fn put_close(text: &mut Text) -> Option<()>
 
 // ---- instructions
 
+// The name is packed in words, so there is no slice of it to go over.
 #[tactic(auto, using(text_out::proofs::Laws::with_text_more, crate::proofs::Steps::with_name), unfolding(text_out::specs::Text::laid, text_out::specs::Text::after_text))]
-fn put_name(text: &mut Text, row: usize)
-    requires { row < 75 }
-    ensures { text.new ≡ with_text text.old (name_at row) }
+fn put_name(text: &mut Text, row: Row)
+    ensures { text.new ≡ with_text text.old (name_at row.number) }
 {
-    for j in 0..ops::name_length(row) {
-        text.byte(ops::name_letter(row, j));
+    for j in 0..row.name_length() {
+        text.byte(row.name_letter(j));
     }
 }
 
-// The most operands of an instruction.
-const OPERANDS: usize = 3;
-
 // The operands of a row, in the words from the first on.
 #[tactic(auto, using(crate::proofs::Steps::operands))]
-fn put_operands(text: &mut Text, float: u8, row: usize, words: &[u64]) -> Option<()>
-    requires { (row < 75) × (length words.now ≡ 3) }
-    ensures { Puts text.old (operands_said float (maxima_of row) words.now) result text.new }
+fn put_operands(text: &mut Text, float: u8, row: Row, words: &[u64]) -> Option<()>
+    requires { length words.now ≡ 3 }
+    ensures { Puts text.old (operands_said float (maxima_of row.number) words.now) result text.new }
 {
-    for j in 0..OPERANDS {
-        let most = ops::maximum(row, j);
-        if most == 0 {
-            break;
-        }
-        if listing::names_lacking(float, most, words[j]) {
+    for (most, word) in row.maxima().iter().zip(words) {
+        if listing::names_lacking(float, *most, *word) {
             return None;
         }
-        put_number(text, listing::maximum_code(most), words[j])?;
+        put_number(text, listing::maximum_code(*most), *word)?;
     }
     Some(())
 }
@@ -224,16 +206,14 @@ fn put_op(text: &mut Text, t: &[u64; SIZE], i: usize) -> Option<()>
     ensures { Puts text.old (entry_said t.now 9 i) result text.new }
 {
     let code = bytecode::cell(t, bytecode::INSTRUCTIONS, i, 0) as usize;
-    if ops::ROWS <= code {
-        return None;
-    }
+    let row = Row::of_code(code)?;
     text.bytes(&words::OP);
-    put_name(text, code);
+    put_name(text, row);
     let first = bytecode::row_place(bytecode::INSTRUCTIONS, i) + 1;
     put_operands(
         text,
         bytecode::float_of(t),
-        code,
+        row,
         &t[first..first + OPERANDS],
     )?;
     text.bytes(&words::CLOSE);
@@ -261,8 +241,8 @@ fn put_rows(text: &mut Text, t: &[u64; SIZE], k: usize, rows: Span) -> Option<()
     ensures { Puts text.old (rows_said t.now k rows.first rows.count) result text.new }
 {
     let Span { first, count } = rows;
-    for i in 0..count {
-        put_entry(text, t, k, first + i)?;
+    for i in first..first + count {
+        put_entry(text, t, k, i)?;
     }
     Some(())
 }
@@ -348,19 +328,14 @@ fn counts_fit(t: &[u64]) -> bool
     (bytecode::SLOTS..bytecode::TABLES).all(|k| bytecode::word(t, k) <= bytecode::cap_of(k))
 }
 
-// The words of the header's row that are its trap codes.
-const INDEX_TRAP: usize = 6;
-
-const HOST_TRAP: usize = 7;
-
 // Whether there is one header, whose traps differ.
 #[tactic(auto, unfolding(crate::specs::Say::is_headed, bytecode::specs::Tables::cap))]
 fn is_headed(t: &[u64]) -> bool
     ensures { result ≡ is_headed t.now }
 {
     bytecode::word(t, bytecode::HEADER) == 1
-        && bytecode::cell(t, bytecode::HEADER, 0, INDEX_TRAP)
-            != bytecode::cell(t, bytecode::HEADER, 0, HOST_TRAP)
+        && bytecode::cell(t, bytecode::HEADER, 0, bytecode::INDEX_TRAP)
+            != bytecode::cell(t, bytecode::HEADER, 0, bytecode::HOST_TRAP)
 }
 
 // The module that the tables say.
@@ -384,7 +359,7 @@ fn put_listing(t: &[u64; SIZE], out: &mut [u8]) -> Option<usize>
     let mut text = Text::new(out);
     put_module(&mut text, t)?;
     let length = text.length();
-    (length <= LONGEST).then_some(length)
+    (length <= listing::MOST_BYTES).then_some(length)
 }
 
 // Writes the module that the tables say as its listing, which is measured first, where the buffer has room for it; else, and where no listing gives it, the buffer is left as it is.
@@ -393,9 +368,7 @@ pub fn write(t: &[u64; SIZE], out: &mut [u8]) -> Result<u64, Refusal>
     ensures equal { answer_written result out.new ≡ write_tables t.now out.old }
     ensures written_back { WrittenBack t.now out.old result out.new × ReadAgain t.now result out.new }
 {
-    let Some(length) = put_listing(t, &mut []) else {
-        return Err(Refusal::CannotFollow(0));
-    };
+    let length = put_listing(t, &mut []).ok_or(Refusal::CannotFollow(0))?;
     if out.len() < length {
         return Err(Refusal::BufferTooShort(length as u64));
     }

@@ -24,7 +24,7 @@ pub returns-then-i-eq-SET_LOCAL : goal.returns-then-i-eq-SET_LOCAL
 unfolding instr instr_of ops row make_at
 returns-then-i-eq-SET_LOCAL c =
     let x = c.args.x.now in
-    subst (λ (j : AnyInstr). Stepped (chunk_in x) x.locals c.args.ip j (state_of x.locals c.args.s.now.state) c.set_local.result c.set_local.new.s.state) (sym (code_at c.args.i 5 c.if-i-eq-SET_LOCAL.true)) c.set_local.ensures
+    subst (λ (j : AnyInstr). Stepped (chunk_in x) x.locals.count c.args.ip j (state_of x.locals.count c.args.s.now.state) c.set_local.result c.set_local.new.s.state) (sym (code_at c.args.i 5 c.if-i-eq-SET_LOCAL.true)) c.set_local.ensures
 
 pub check_room-requires-clause-taken : goal.check_room-requires-clause-taken
 check_room-requires-clause-taken c = take_fits c.args.e.need c.args.s.now.state.height c.in_ok-moves.ensures (effect_in c.args.x.now c.args.i c.args.e c.requires.effect).0 c.requires.need
@@ -34,7 +34,7 @@ unfolding refusal
 returns-in_err-check_room c =
     let x = c.args.x.now in
     let p = err_from_is_err_and c.from_residual-in_err-check_room.result c.from_residual-in_err-check_room.ensures.1 in
-    rw (p.1, p.2) (record { result = too_tall (chunk_in x) (any_instr_of c.args.i) x.locals c.args.ip c.args.s.now.state _ c.in_ok-moves.ensures _ (state_of x.locals c.args.s.now.state) c.in_err-check_room.ensures })
+    rw (p.1, p.2) (record { result = too_tall (chunk_in x) (any_instr_of c.args.i) x.locals.count c.args.ip c.args.s.now.state _ c.in_ok-moves.ensures _ (state_of x.locals.count c.args.s.now.state) c.in_err-check_room.ensures })
 
 pub replace-requires-clause-taken : goal.replace-requires-clause-taken
 replace-requires-clause-taken c = take_fits c.args.e.need c.args.s.now.state.height c.in_ok-moves.ensures (effect_in c.args.x.now c.args.i c.args.e c.requires.effect).0 c.requires.need
@@ -43,4 +43,4 @@ pub returns : goal.returns
 unfolding refusal
 returns c =
     let x = c.args.x.now in
-    record { result = fits (chunk_in x) (any_instr_of c.args.i) x.locals c.args.ip c.args.s.now.state _ c.in_ok-moves.ensures (state_of x.locals c.replace.new.self.state) c.in_ok-check_room.ensures (c.replace.ensures.state x.locals x.of.locals_low ∙ rw (c.scalar_value-int.ensures, c.from.ensures, c.from-2.ensures)) }
+    record { result = fits (chunk_in x) (any_instr_of c.args.i) x.locals.count c.args.ip c.args.s.now.state _ c.in_ok-moves.ensures (state_of x.locals.count c.replace.new.self.state) c.in_ok-check_room.ensures (c.replace.ensures.state x.locals.count x.of.locals_low ∙ rw (c.scalar_value-int.ensures, c.from.ensures, c.from-2.ensures)) }

@@ -16,8 +16,8 @@ loop-arg-preserved c =
     let a = c.args in
     let v = c.operand-shape.result in
     let high = down-length (value_at a.s.now.state) a.s.now.state.height in
-    let step = args_step a.ip a.callee a.n (stack_of a.s.now.state) (get_or (known_sigs a.x.now.tables.now) a.callee no_sig).params c.loop-arg.arg (value_of v) (plain_of c.from_wire-declared.result) c.shapes_compatible.result
-    (omega arith) (omega arith) (omega arith) c.operand-shape.ensures (c.from_wire-declared.ensures ∙ c.sig_param.ensures) (c.shapes_compatible.ensures (places_of v.places) none) in
+    let step = args_step a.ip a.callee a.n (stack_of a.s.now.state) (get_or (known_sigs a.x.now.tables.now) a.callee no_sig).params c.loop-arg.arg (value_of v) (plain_of c.sig_param-declared.result) c.shapes_compatible.result
+    (omega arith) (omega arith) (omega arith) c.operand-shape.ensures c.sig_param-declared.ensures (c.shapes_compatible.ensures (places_of v.places) none) in
     c.loop-arg.invariant ∙ step ∙ rw c.if-not-shapes_compatible.false
 
 pub returns-then-not-shapes_compatible : goal.returns-then-not-shapes_compatible
@@ -26,8 +26,8 @@ returns-then-not-shapes_compatible c =
     let a = c.args in
     let v = c.operand-shape.result in
     let high = down-length (value_at a.s.now.state) a.s.now.state.height in
-    let step = args_step a.ip a.callee a.n (stack_of a.s.now.state) (get_or (known_sigs a.x.now.tables.now) a.callee no_sig).params c.loop-arg.arg (value_of v) (plain_of c.from_wire-declared.result) c.shapes_compatible.result
-    (omega arith) (omega arith) (omega arith) c.operand-shape.ensures (c.from_wire-declared.ensures ∙ c.sig_param.ensures) (c.shapes_compatible.ensures (places_of v.places) none) in
+    let step = args_step a.ip a.callee a.n (stack_of a.s.now.state) (get_or (known_sigs a.x.now.tables.now) a.callee no_sig).params c.loop-arg.arg (value_of v) (plain_of c.sig_param-declared.result) c.shapes_compatible.result
+    (omega arith) (omega arith) (omega arith) c.operand-shape.ensures c.sig_param-declared.ensures (c.shapes_compatible.ensures (places_of v.places) none) in
     sym (c.loop-arg.invariant ∙ step ∙ rw (c.if-not-shapes_compatible.true, c.from.ensures))
 
 pub returns : goal.returns

@@ -16,7 +16,7 @@ returns-in_err-check_need c =
     let s = c.args.s.now.state in
     let f = (effect_in x c.args.i c.op_depth_effect-e.result c.op_depth_effect-e.ensures).0 in
     let p = err_from_is_err_and c.from_residual.result c.from_residual.ensures.1 in
-    rw (p.1, p.2) (record { result = examine_stops (chunk_in x) c.args.ip c.args.floor (any_instr_of c.args.i) (state_of x.locals s) s.height _ (down-length (value_at s) s.height) f _ (state_of x.locals s) c.in_err-check_need.ensures.tests })
+    rw (p.1, p.2) (record { result = examine_stops (chunk_in x) c.args.ip c.args.floor.height (any_instr_of c.args.i) (state_of x.locals.count s) s.height _ (down-length (value_at s) s.height) f _ (state_of x.locals.count s) c.in_err-check_need.ensures.tests })
 
 pub returns : goal.returns
 unfolding refusal
@@ -24,4 +24,4 @@ returns c =
     let x = c.args.x.now in
     let s = c.args.s.now.state in
     let f = (effect_in x c.args.i c.op_depth_effect-e.result c.op_depth_effect-e.ensures).0 in
-    record { result = c.apply_op.ensures.result ∙ examine_goes (chunk_in x) c.args.ip c.args.floor (any_instr_of c.args.i) (state_of x.locals s) s.height _ (down-length (value_at s) s.height) f c.in_ok-check_need.ensures.tests }
+    record { result = c.apply_op.ensures.result ∙ examine_goes (chunk_in x) c.args.ip c.args.floor.height (any_instr_of c.args.i) (state_of x.locals.count s) s.height _ (down-length (value_at s) s.height) f c.in_ok-check_need.ensures.tests }

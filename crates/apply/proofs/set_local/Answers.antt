@@ -16,9 +16,8 @@ returns c =
     let x = c.args.x.now in
     let v = c.operand-v.result in
     let high = down-length (value_at c.args.s.now.state) c.args.s.now.state.height in
-    let declared = c.from_wire-declared.ensures ∙ c.sig_param.ensures in
     record {
-      result = local_done (chunk_in x) c.args.ip c.args.k (state_of x.locals c.args.s.now.state) _ (value_of v) _ c.operand-v.ensures (rw (chunk_sig x.tables.now x.chunk) declared)
+      result = local_done (chunk_in x) c.args.ip c.args.k (state_of x.locals.count c.args.s.now.state) _ (value_of v) _ c.operand-v.ensures (rw (chunk_sig x.tables.now x.chunk) c.sig_param-declared.ensures)
           (sym (c.shapes_compatible.ensures (places_of v.places) none) ∙ c.if-not-shapes_compatible.false) (omega arith) (omega arith)
-          (c.pop.ensures.state x.locals ∙ ap (λ (z : AnyState). popped 1 z) c.set_local.ensures.state);
+          (c.pop.ensures.state x.locals.count ∙ ap (λ (z : AnyState). popped 1 z) c.set_local.ensures.state);
     }

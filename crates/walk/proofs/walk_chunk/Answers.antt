@@ -22,5 +22,5 @@ returns c =
           chunk_walked a.t.now a.heights.now a.blinds.now a.k c.requires x.result x.ensures.tables x.ensures.chunk _ _ c.start_locals.ensures
           (rw (← same)
           (w.ensures
-          ∙ ap (λ (p : Pending). full (chunk_in x.result) 0 x.result.count 0 (state_of x.result.locals c.start_locals.new.s.state) (pending_of (state_of x.result.locals b.frame.state) p) (sheets_of a.heights.now a.blinds.now)) c.new-b.ensures));
+          ∙ ap (λ (p : Pending). full (chunk_in x.result) 0 x.result.code.count 0 (state_of x.result.locals.count c.start_locals.new.s.state) (pending_of (state_of x.result.locals.count b.frame.state) p) (sheets_of a.heights.now a.blinds.now)) c.new-b.ensures));
     }

@@ -5,7 +5,7 @@ use Rattle.writer.proofs.put_form.Goals as goal
 use Rattle.writer.proofs.put_form.Goals.{in-141+in_ok-put_shapes-in-141, in_default, in_default-2+in_ok-word-in_default-2+in_ok-put_value-in_default-2}
 
 pub loop-code-init : goal.loop-code-init
-loop-code-init c = puts_text _ _ _ _ _ _ _ c.requires c.text.ensures c.codes-codes.ensures c.bytes.ensures
+loop-code-init c = puts_text _ _ _ _ _ _ _ c.text.ensures c.codes-codes.ensures c.bytes.ensures
 
 pub loop-code-preserved : goal.loop-code-preserved
 loop-code-preserved c = elim c.match-code.branch [

@@ -5,4 +5,4 @@ use Rattle.text_out.specs.Text.{with_text}
 use Rattle.writer.proofs.put_name.Given as goal
 
 abbrev pub invariant-loop-j : goal.invariant-loop-j
-invariant-loop-j l = l.text ≡ with_text l.initial.text (take l.j (name_at l.row))
+invariant-loop-j l = l.text ≡ with_text l.initial.text (take l.j (name_at l.row.number))

@@ -2,5 +2,5 @@
 use Rattle.writer.proofs.Steps.{puts_no_op}
 use Rattle.writer.proofs.put_op.Goals as goal
 
-pub returns-then-code-ge-ROWS : goal.returns-then-code-ge-ROWS
-returns-then-code-ge-ROWS c = puts_no_op c.args.t.now c.args.i _ c.cell-code.ensures _ c.if-code-ge-ROWS.true
+pub returns-in_err-row : goal.returns-in_err-row
+returns-in_err-row c = rw c.from_residual.ensures (puts_no_op c.args.t.now c.args.i _ c.cell-code.ensures _ c.in_err-row.ensures)

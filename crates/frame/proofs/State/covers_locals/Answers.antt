@@ -10,6 +10,6 @@ pub returns : goal.returns
 returns c =
     let f = value_at c.args.self.now in
     let g = value_at c.args.other.now in
-    let n = c.args.locals in
+    let n = c.args.locals.count in
     all_from_yields_List (λ j. covers (f j) (g j)) _ _ c.all.result c.all.ensures.ran (YieldsList-from_range 64 (64 + n) n (cc) (omega arith)) (λ x b q k. search (rules, tests))
     ∙ locals_cover f g 64 n

@@ -5,6 +5,9 @@ use Rattle.bytecode.specs.Meaning.{chunk_word, chunk_float, chunk_address, chunk
 use Rattle.bytecode.specs.Parts.{header_of}
 use Rattle.rules.proofs.chunk.Context.new.Goals as goal
 
+pub invariant_of-locals : goal.invariant_of-locals
+invariant_of-locals c = record { few = rw c.locals.ensures (locals_low c.args.tables.now c.args.k) }
+
 pub invariant_of-result : goal.invariant_of-result
 unfolding header_of cap
 invariant_of-result c =
