@@ -86,8 +86,10 @@ impl State {
         Slot::from(self.slots[i]).shape
     }
 
-    // Slot i gets a word with its places. Where there are none, which is so of most, even a copy of nothing would be a call.
+    // Slot i gets a word with its places. Where there are none, which is so of most, even a copy of nothing would be a call. Put in where it is asked: there it is seen that the
+    // places are a value's own.
     #[tactic(auto, using(crate::proofs::Words::few_counted))]
+    #[inline(always)]
     fn put(&mut self, i: usize, held: Held<'_>)
         requires { i < SLOTS }
         ensures { Written self.old i (valued (slot_of held.entry.word) held.entry.places.now) self.new }
@@ -121,12 +123,18 @@ impl State {
 
     // ---- another state's slots
 
-    // Slot i becomes that of another state.
+    // Slot i becomes that of another state. Places go through a value: a copy from one lent array to another would ask the C library for `memmove`, and its callers are asked for
+    // `memcpy` and `memset` alone.
     fn copy_slot(&mut self, other: &State, i: usize)
         requires { i < SLOTS }
         ensures { Written self.old i (value_at other.now i) self.new }
     {
-        self.put(i, other.held_at(i));
+        let held = other.held_at(i);
+        if held.places.is_empty() {
+            self.put(i, held);
+        } else {
+            self.write(i, Value::from(held));
+        }
     }
 
     // The slots from lo up to hi become those of another state.
