@@ -66,6 +66,12 @@ Visited x ip floor before r after k = (end : ℕ) (bl : List ℕ) → visit_in x
 abbrev pub Leaf : Visit → ℕ → (List ℕ → Standing) → Outcome Flow Refusal → (List ℕ → Standing) → Type 0
 Leaf v code before r after = (target : ℕ) → Coded v.x.now v.ip code target → Visited v.x.now v.ip v.floor.height before r after (leads code target)
 
+-- What is lent to a leaf stays as it was where it is refused or its path ends; where it falls through, the words and the places stay, and the height alone may be another.
+abbrev pub Kept : Outcome Flow Refusal → State → State → Type 0
+Kept (Ok Falls) s s' = (s'.slots ≡ s.slots) × (s'.places ≡ s.places)
+Kept (Ok Ended) s s' = s' ≡ s
+Kept (Err r) s s' = s' ≡ s
+
 -- An instruction that is examined for the height alone: the height is marked, and the tests are 12 and 5.
 pub record Guarded (at need ip floor height : ℕ) (before after : List ℕ) (r : Outcome Unit Refusal) : Type 0 where
   pub marks : after ≡ set before at (suc height)

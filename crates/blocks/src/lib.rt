@@ -86,7 +86,7 @@ impl Breaks {
 }
 
 ghost use Rattle.blocks.specs.Outcomes.{breaks_of, standing, fall_of, end_of, walked_of, left_of, after_last, forgotten};
-ghost use Rattle.blocks.specs.Visits.{SpanOf, instr_in, Guarded, Leaf, stands};
+ghost use Rattle.blocks.specs.Visits.{SpanOf, instr_in, Guarded, Leaf, stands, Kept};
 
 // ---- the ends of two arms
 
@@ -235,7 +235,8 @@ pub fn leaf_at(
 ) -> Result<Flow, Refusal>
     requires room { v.now.x.now.code.first + v.now.x.now.code.count ≤ length heights.old }
     requires coded { (code < 75) × (straight code ≡ false) × (code ≢ IF) × (code ≢ LOOP) }
-    ensures { let x = v.now.x.now in Leaf v.now code (stands x s.old.state b.old heights.old) result (stands x s.new.state b.new heights.new) }
+    ensures leads { let x = v.now.x.now in Leaf v.now code (stands x s.old.state b.old heights.old) result (stands x s.new.state b.new heights.new) }
+    ensures kept { Kept result s.old.state s.new.state }
 {
     let Visit { x, ip, floor, .. } = *v;
     let at = x.code.first + ip;

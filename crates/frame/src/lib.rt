@@ -277,6 +277,7 @@ impl Frame {
         requires { 0 < self.old.state.height }
         ensures height { self.new.state.height + 1 ≡ self.old.state.height }
         ensures state { (locals : ℕ) → state_of locals self.new.state ≡ popped 1 (state_of locals self.old.state) }
+        ensures words { (self.new.state.slots ≡ self.old.state.slots) × (self.new.state.places ≡ self.old.state.places) }
     {
         self.state.height -= 1;
     }

@@ -92,6 +92,8 @@ fn check_chunk(t: &[u64], k: usize) -> ChunkNesting
 }
 
 // The nesting of all chunks: the first instruction that breaks a rule, chunk by chunk; then the first opener making more than eight open blocks.
+// A call of its own: put in where it is asked, its room for open blocks would lie on the stack while the chunks are walked.
+#[inline(never)]
 pub fn check_nesting(t: &[u64]) -> Result<(), Refused>
     ensures { found result ≡ nesting_test (table_chunks t.now) }
 {

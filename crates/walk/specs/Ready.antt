@@ -94,10 +94,8 @@ pub record Roomy (t heights blinds : List ℕ) (k : ℕ) : Type 0 where
   pub nested : Nested (chunk_of t k)
 
 -- The walk of chunk k over these sheets is the definition's, with the state and breaks that it ends in.
-pub record WalkedChunk (t : List ℕ) (k : ℕ) (heights blinds : List ℕ) (r : Outcome Flow Refusal) (heights' blinds' : List ℕ) : Type 0 where
-  pub state : State
-  pub breaks : Breaks
-  pub walked : walked_of r (standing (locals_at t k) state breaks heights' blinds') ≡ walk_chunk (chunk_of t k) (sheets_of heights blinds)
+pub record WalkedChunk (t : List ℕ) (k : ℕ) (heights blinds : List ℕ) (r : Outcome Flow Refusal) (s : State) (b : Breaks) (heights' blinds' : List ℕ) : Type 0 where
+  pub walked : walked_of r (standing (locals_at t k) s b heights' blinds') ≡ walk_chunk (chunk_of t k) (sheets_of heights blinds)
 
 -- the walk of all chunks, with the sheets that it leaves
 unfoldable pub results_of : Outcome Unit Refused → Sheets → Result Sheets

@@ -267,41 +267,49 @@ pub fn last_pass(
     blocks::last_end(flow, s, head, b, ip, x.locals)
 }
 
-// The walk of chunk k.
+// The walk of chunk k, with room for the state and the breaks that it ends in, whatever they hold.
 #[tactic(auto, using(crate::proofs::Start::chunk_ready))]
 pub fn walk_chunk(
     t: &[u64],
     heights: &mut [u8],
     blinds: &mut [u8],
     k: usize,
+    s: &mut Frame,
+    b: &mut Breaks,
 ) -> Result<Flow, Refusal>
     requires { Roomy t.now heights.old blinds.old k }
-    ensures { WalkedChunk t.now k heights.old blinds.old result heights.new blinds.new }
+    ensures { WalkedChunk t.now k heights.old blinds.old result s.new.state b.new heights.new blinds.new }
 {
     let x = Context::new(t, k);
-    let mut s = Frame::new();
-    let mut b = Breaks::new();
-    blocks::start_locals(t, k, &mut s, x.locals);
+    *s = Frame::new();
+    *b = Breaks::new();
+    blocks::start_locals(t, k, s, x.locals);
     interp_region(
         &x,
         heights,
         blinds,
-        &mut s,
-        &mut b,
+        s,
+        b,
         0..x.code.count,
         Floor { height: 0 },
     )
 }
 
-// The walk of all chunks: the first that is refused, with its number.
+// The walk of all chunks: the first that is refused, with its number. A call of its own, as `nesting::check_nesting` is: neither's room lies on the stack beside the other's.
+#[inline(never)]
 #[tactic(auto, using(crate::proofs::Start::walked_none, crate::proofs::Start::walked_all), unfolding(crate::specs::Ready::results_of))]
 pub fn walk_chunks(t: &[u64], heights: &mut [u8], blinds: &mut [u8]) -> Result<(), Refused>
     requires { (k : ℕ) → k < count t.now 7 → Roomy t.now heights.old blinds.old k }
     ensures { results_of result (sheets_of heights.new blinds.new) ≡ walk_all 0 (table_chunks t.now) (sheets_of heights.old blinds.old) }
 {
+    let mut s = Frame::new();
+    let mut b = Breaks::new();
     for k in 0..bytecode::count(t, bytecode::CHUNKS) {
         let chunk = k as u64;
-        walk_chunk(t, heights, blinds, k).map_err(|refusal| Refused { chunk, refusal })?;
+        walk_chunk(t, heights, blinds, k, &mut s, &mut b).map_err(|refusal| Refused {
+            chunk,
+            refusal,
+        })?;
     }
     Ok(())
 }

@@ -13,14 +13,12 @@ returns c =
     let a = c.args in
     let x = c.new-x in
     let w = c.interp_region in
-    let b = c.new-b.result in
+    let b = c.new-2.result in
     let same = locals_are a.t.now a.heights.now a.blinds.now a.k c.requires x.result x.ensures.tables x.ensures.chunk in
     record {
-      state = w.new.s.state;
-      breaks = w.new.b;
       walked =
           chunk_walked a.t.now a.heights.now a.blinds.now a.k c.requires x.result x.ensures.tables x.ensures.chunk _ _ c.start_locals.ensures
           (rw (← same)
           (w.ensures
-          ∙ ap (λ (p : Pending). full (chunk_in x.result) 0 x.result.code.count 0 (state_of x.result.locals.count c.start_locals.new.s.state) (pending_of (state_of x.result.locals.count b.frame.state) p) (sheets_of a.heights.now a.blinds.now)) c.new-b.ensures));
+          ∙ ap (λ (p : Pending). full (chunk_in x.result) 0 x.result.code.count 0 (state_of x.result.locals.count c.start_locals.new.s.state) (pending_of (state_of x.result.locals.count b.frame.state) p) (sheets_of a.heights.now a.blinds.now)) c.new-2.ensures));
     }
