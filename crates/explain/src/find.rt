@@ -1,5 +1,4 @@
 // The line of a listing that an answer means.
-use crate::lines;
 use crate::lines::{Line, SORTS, Sort};
 use std::fmt;
 
@@ -95,7 +94,10 @@ impl Before {
 
 pub fn find(listing: &[u8], wanted: Wanted) -> Option<Place<'_>> {
     let mut before = Before::default();
-    for line in listing.split_inclusive(lines::is_line_feed).map(Line::new) {
+    let mut rest = listing;
+    // By what is left, and not by `split_inclusive`: that looks for a line's end first, and the line that is wanted may be as long as a listing.
+    while !rest.is_empty() {
+        let line = Line::new(rest);
         if before.is_wanted(wanted, line) {
             return Some(Place {
                 number: before.lines.saturating_add(1),
@@ -103,6 +105,7 @@ pub fn find(listing: &[u8], wanted: Wanted) -> Option<Place<'_>> {
             });
         }
         before.add(line.sort);
+        rest = line.after();
     }
     None
 }

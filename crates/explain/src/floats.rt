@@ -27,7 +27,7 @@ fn is_field_read(line: &[u8]) -> bool {
     kind.len() < offset.len() && kind.starts_with(b" 5)\n")
 }
 
-// Whether a line is an op that names it.
+// Whether a line is an op that names it. What follows the line may stand behind it.
 pub fn is_op(listing: &[u8], line: &[u8]) -> bool {
     are_lacking(listing) && (line.starts_with(b"(op GetIndex Flat 5)\n") || is_field_read(line))
 }

@@ -22,7 +22,12 @@ use text_out::Text;
 const ACCEPTED: u64 = 0;
 
 // As wide as the height and the mark of an instruction.
-const NO_MARKS: &str = "                 ";
+const NO_MARKS: &[u8] = b"                 ";
+
+// How many digits the columns of lines and of heights have.
+const LINE_WIDTH: u32 = 7;
+
+const HEIGHT_WIDTH: u32 = 8;
 
 // The line at fault, counted from 1; 0 where no line is, as C has it.
 pub fn line_of(listing: &[u8], answer: &[u64; 8]) -> usize {
@@ -54,7 +59,8 @@ pub fn name_of(number: u64, text: &mut [u8]) -> usize {
 fn put_refused(text: &mut Text<'_>, listing: &[u8], answer: &[u64; 8]) -> fmt::Result {
     let refused = Refused::new(listing, answer);
     if let Some(Place { number, line }) = refused.place {
-        writeln!(text, "line {number}: {line}")?;
+        write!(text, "line {number}: ")?;
+        line.put(text);
     }
     writeln!(text, "{}: {refused}", Name(answer[0]))?;
     if let Some(at) = refused.refusal.at() {
@@ -63,12 +69,28 @@ fn put_refused(text: &mut Text<'_>, listing: &[u8], answer: &[u64; 8]) -> fmt::R
     Ok(())
 }
 
-fn put_marks(text: &mut Text<'_>, height: u8, mark: u8) -> fmt::Result {
-    match height.checked_sub(1) {
-        Some(operands) => write!(text, "{operands:8}")?,
-        None => text.write_str("       -")?,
+// A number in a column of so many digits, or wider. By hand: a formatter takes twice as long.
+fn put_column(text: &mut Text<'_>, n: u64, width: u32) {
+    let mut more: u64 = 1;
+    for _ in 1..width {
+        more = more.saturating_mul(10);
+        if n < more {
+            text.byte(b' ');
+        }
     }
-    text.write_str(if mark == 0 { "  plain  " } else { "  blind  " })
+    text.decimal(n);
+}
+
+fn put_marks(text: &mut Text<'_>, height: u8, mark: u8) {
+    match height.checked_sub(1) {
+        Some(operands) => put_column(text, u64::from(operands), HEIGHT_WIDTH),
+        None => text.bytes(b"       -"),
+    }
+    text.bytes(if mark == 0 {
+        b"  plain  "
+    } else {
+        b"  blind  "
+    });
 }
 
 // An accepted listing, with its sheets.
@@ -82,25 +104,24 @@ struct Accepted<'a> {
 }
 
 impl Accepted<'_> {
-    fn put_lines(&self, text: &mut Text<'_>) -> fmt::Result {
+    fn put_lines(&self, text: &mut Text<'_>) {
         // Past the end of a sheet there is no height, and no read is blind.
         let mut heights = self.heights.iter().copied();
         let mut blinds = self.blinds.iter().copied();
         for (number, bytes) in (1u64..).zip(self.listing.split_inclusive(lines::is_line_feed)) {
             let line = Line::new(bytes);
-            write!(text, "{number:7}")?;
+            put_column(text, number, LINE_WIDTH);
             if line.sort == Sort::Op {
                 put_marks(
                     text,
                     heights.next().unwrap_or(0),
                     blinds.next().unwrap_or(0),
-                )?;
+                );
             } else {
-                text.write_str(NO_MARKS)?;
+                text.bytes(NO_MARKS);
             }
-            writeln!(text, "{line}")?;
+            line.put(text);
         }
-        Ok(())
     }
 
     fn put_blind_reads(&self, text: &mut Text<'_>) -> fmt::Result {
@@ -121,7 +142,8 @@ impl Accepted<'_> {
         writeln!(text, "accepted: {chunks}, {instructions}")?;
         self.put_blind_reads(text)?;
         text.write_str("   line  height  mark   listing\n")?;
-        self.put_lines(text)
+        self.put_lines(text);
+        Ok(())
     }
 }
 

@@ -1,6 +1,7 @@
 // The lines of a listing, any bytes: each with its line feed, which the last may lack.
-use std::fmt;
-use std::fmt::Write;
+ghost use Rattle.std.specs.Prelude.{◌≡◌, ◌≤◌, ◌-◌, length};
+
+use text_out::Text;
 
 // The sorts of lines that the check keeps in tables, and all others.
 #[derive(Clone, Copy, PartialEq, Eq)]
@@ -22,7 +23,9 @@ pub const SORTS: usize = Sort::Other as usize + 1;
 
 // How the lines of each sort begin. Said again here, as the numbers below: explain promises that it is safe alone and stands on text_out, so that no change
 // of the check proves it again; and listing's texts have no space behind them, and none for an op.
+// No form begins as another does, and most lines are ops.
 const FORMS: [(&[u8], Sort); 10] = [
+    (b"(op ", Sort::Op),
     (b"(slot shared)", Sort::SlotShared),
     (b"(slot private)", Sort::SlotPrivate),
     (b"(shared ", Sort::Shared),
@@ -32,7 +35,6 @@ const FORMS: [(&[u8], Sort); 10] = [
     (b"(sig ", Sort::Sig),
     (b"(chunk ", Sort::Chunk),
     (b"(const ", Sort::Const),
-    (b"(op ", Sort::Op),
 ];
 
 // A sig line with 16 parameters opens 19 brackets: its own, two of its results, and those of the parameters.
@@ -45,9 +47,10 @@ const SHOWN: usize = 120;
 
 impl Sort {
     pub fn of(line: &[u8]) -> Sort {
+        // The second byte first: most forms differ there.
         FORMS
             .iter()
-            .find(|(form, _)| line.starts_with(*form))
+            .find(|(form, _)| line.get(1) == form.get(1) && line.starts_with(*form))
             .map_or(Sort::Other, |(_, sort)| *sort)
     }
 
@@ -72,31 +75,51 @@ fn is_printable(byte: u8) -> bool {
     matches!(byte, b' '..=b'~')
 }
 
+// A line, by the listing from it on: its end is looked for where it counts.
 #[derive(Clone, Copy)]
 pub struct Line<'a> {
-    pub bytes: &'a [u8],
+    pub rest: &'a [u8],
     pub sort: Sort,
 }
 
 impl<'a> Line<'a> {
-    pub fn new(bytes: &'a [u8]) -> Self {
+    pub fn new(rest: &'a [u8]) -> Self
+        ensures { result.rest.now ≡ rest.now }
+    {
         Line {
-            bytes,
-            sort: Sort::of(bytes),
+            rest,
+            sort: Sort::of(rest),
         }
     }
 
-    fn without_line_feed(&self) -> &'a [u8] {
-        self.bytes.strip_suffix(b"\n").unwrap_or(self.bytes)
+    // What follows its line feed.
+    pub fn after(&self) -> &'a [u8]
+        ensures { length result.now ≤ length self.now.rest.now - 1 }
+    {
+        match self.rest.iter().position(is_line_feed) {
+            Some(end) => &self.rest[end + 1..],
+            None => &[],
+        }
+    }
+
+    pub fn has_line_feed(&self) -> bool {
+        self.rest.iter().any(is_line_feed)
     }
 
     pub fn is_printable(&self) -> bool {
-        let bytes = self.without_line_feed();
-        bytes.iter().copied().all(is_printable)
+        self.rest
+            .iter()
+            .copied()
+            .take_while(|byte| *byte != b'\n')
+            .all(is_printable)
     }
 
     fn count_brackets(&self) -> usize {
-        self.bytes.iter().filter(|byte| **byte == b'(').count()
+        self.rest
+            .iter()
+            .take_while(|byte| **byte != b'\n')
+            .filter(|byte| **byte == b'(')
+            .count()
     }
 
     // Whether it is a sig line with more parameters than a signature may have.
@@ -106,7 +129,8 @@ impl<'a> Line<'a> {
 
     // The number that all its digits make.
     fn number(&self) -> u32 {
-        let digits = self.bytes.iter().filter(|byte| byte.is_ascii_digit());
+        let bytes = self.rest.iter().take_while(|byte| **byte != b'\n');
+        let digits = bytes.filter(|byte| byte.is_ascii_digit());
         digits.fold(0, |number: u32, digit| {
             number
                 .saturating_mul(10)
@@ -118,22 +142,18 @@ impl<'a> Line<'a> {
     pub fn has_locals_over(&self) -> bool {
         self.sort == Sort::Chunk && MOST_LOCALS < self.number()
     }
-}
 
-// As a terminal may be sent it, without its line feed; of a long line the first bytes and two dots.
-impl fmt::Display for Line<'_> {
-    fn fmt<W: fmt::Write>(&self, f: &mut fmt::Formatter<W>) -> fmt::Result {
-        let bytes = self.without_line_feed();
-        for byte in bytes.iter().copied().take(SHOWN) {
-            f.write_char(if is_printable(byte) {
-                char::from(byte)
-            } else {
-                '?'
-            })?;
+    // As a terminal may be sent it, and a line feed; of a long line the first bytes and two dots. Byte by byte, and no Display: a formatter takes twice as long.
+    pub fn put(&self, text: &mut Text) {
+        for byte in self.rest.iter().copied().take(SHOWN) {
+            if byte == b'\n' {
+                return text.byte(b'\n');
+            }
+            text.byte(if is_printable(byte) { byte } else { b'?' });
         }
-        if SHOWN < bytes.len() {
-            f.write_str("..")?;
+        match self.rest.get(SHOWN) {
+            None | Some(b'\n') => text.byte(b'\n'),
+            Some(_) => text.bytes(b"..\n"),
         }
-        Ok(())
     }
 }

@@ -162,13 +162,13 @@ impl<'a> Refused<'a> {
             f.write_str(
                 "a byte of this line, shown as `?`, may not stand in a listing; a line ends with a line feed alone",
             )
-        } else if !line.bytes.ends_with(b"\n") {
+        } else if !line.has_line_feed() {
             f.write_str(
                 "the listing ends within this line, and each line has to end with a line feed",
             )
         } else if before == 0 {
             f.write_str("the first line has to be `(module W F A S P I H`, with numbers that fit")
-        } else if floats::is_op(self.listing, line.bytes) {
+        } else if floats::is_op(self.listing, line.rest) {
             f.write_str("no op may name kind 5, the float, where the first line says F 0")
         } else {
             write!(
@@ -223,7 +223,7 @@ impl<'a> Refused<'a> {
             size,
             buffer,
         } = span;
-        let entry = self.place.map_or(self.listing, |place| place.line.bytes);
+        let entry = self.place.map_or(self.listing, |place| place.line.rest);
         if floats::is_entry(self.listing, entry) {
             f.write_str("the KIND of this entry is 5, the float, and the first line says F 0")
         } else if size == 0 && offset <= buffer {
