@@ -43,6 +43,8 @@ impl Failure<'_> {
     }
 }
 
+// A call of its own: a run that checks nothing, and only says why, needs no stack for a listing.
+#[inline(never)]
 fn check_input<'a>(
     rt: &HostRuntime,
     input: &mut impl Read,

@@ -60,6 +60,7 @@ module _ (s : Bytes) (o : Outcome Unit Refusal) (t : List ℕ) (e : read s ≡ r
             ∙ ap read_answer (sym reads);
         module_is = λ m x. (ok_inj (sym reads ∙ x), st.exact);
         no_module = λ r x. absurd (no_ok (sym x ∙ reads));
+        no_header = λ r x. absurd (no_ok (sym x ∙ reads));
       }
 
   pub read_err : (r : Refusal) (u : List ℕ) → o ≡ Err r → get_or u 0 0 ≡ 0 → ReadInto (read s) (Err (record { chunk = 0; refusal = r })) u
@@ -70,6 +71,7 @@ module _ (s : Bytes) (o : Outcome Unit Refusal) (t : List ℕ) (e : read s ≡ r
         answer = ap read_answer (sym reads);
         module_is = λ m x. absurd (no_ok (sym reads ∙ x));
         no_module = λ xs x. none_exact u z;
+        no_header = λ xs x. z;
       }
 
 -- What reading leaves, in the caller's words and tables.
@@ -80,6 +82,7 @@ read_all o a n words tables r f g =
       numbers = numbered (values_of (read_answer o)) n words (f ∙ ap (λ (z : AnyAnswer). row_of (values_of z)) r.answer) g;
       module_is = r.module_is;
       no_module = r.no_module;
+      no_header = r.no_header;
     }
 
 -- ── Writing ───────────────────────────────────────────────────────────────────────────────

@@ -1,5 +1,5 @@
 -- What a caller of the library finds in the words that it lends, and in what else it lends.
-use Rattle.std.specs.Prelude.{◌≡◌, true, false, List, [], ◌∷◌, ◌++◌, ℕ, ◌≤◌, length, take, drop, Result as Outcome}
+use Rattle.std.specs.Prelude.{◌≡◌, true, false, List, [], ◌∷◌, ◌++◌, ℕ, ◌≤◌, length, get_or, take, drop, Result as Outcome}
 use Rattle.definition.specs.Basics.{Result, ok, refused}
 use Rattle.definition.specs.Format.{Bytes}
 use Rattle.definition.specs.Module.{Module, all_ops}
@@ -29,17 +29,19 @@ unfoldable pub read_answer : Result Module → Answer
 read_answer (ok m) = accepted (length m.chunks) (length (all_ops m.chunks))
 read_answer (refused r) = refusal r
 
--- What reading leaves: that answer; where the listing reads, tables that say exactly its module, and where it does not, none.
+-- What reading leaves: that answer; where the listing reads, tables that say exactly its module, and where it does not, none: word 0, the header's count, is 0.
 pub record ReadInto (o : Result Module) (a : Outcome Accepted Refused) (tables : List ℕ) : Type 0 where
   pub answer : answer_of a ≡ read_answer o
   pub module_is : (m : Module) → o ≡ ok m → (module_of tables ≡ m) × (is_exact tables ≡ true)
   pub no_module : (r : List ℕ) → o ≡ refused r → is_exact tables ≡ false
+  pub no_header : (r : List ℕ) → o ≡ refused r → get_or tables 0 0 ≡ 0
 
--- That answer; where the listing reads, the tables say exactly its module, and where it does not, none.
+-- That answer; where the listing reads, the tables say exactly its module, and where it does not, none: word 0, the header's count, is 0.
 pub record ReadGiven (o : Result Module) (n : ℕ) (words tables : List ℕ) : Type 0 where
   pub numbers : Numbered (values_of (read_answer o)) n words
   pub module_is : (m : Module) → o ≡ ok m → (module_of tables ≡ m) × (is_exact tables ≡ true)
   pub no_module : (r : List ℕ) → o ≡ refused r → is_exact tables ≡ false
+  pub no_header : (r : List ℕ) → o ≡ refused r → get_or tables 0 0 ≡ 0
 
 -- The answer of the writing call, and the buffer.
 pub record WriteGiven (w : Written) (n : ℕ) (words out : List ℕ) : Type 0 where
