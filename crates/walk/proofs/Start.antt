@@ -20,9 +20,9 @@ use Rattle.answer.specs.declared.Refusal.{Refusal}
 use Rattle.answer.specs.declared.Refused.{Refused}
 use Rattle.answer.specs.Answer.{fields, with_chunk, numbers, refused_numbers}
 use Rattle.stretch.specs.Stretch.{sheets_of}
-use Rattle.blocks.specs.declared.Flow.{Flow}
 use Rattle.blocks.specs.Outcomes.{Standing, walked_of}
-use Rattle.walk.specs.Ready.{Ready, Roomy}
+use Rattle.walk.specs.declared.ChunkEnd.{ChunkEnd}
+use Rattle.walk.specs.Ready.{Ready, Roomy, flow_of}
 
 -- ── A chunk ───────────────────────────────────────────────────────────────────────────────
 
@@ -81,24 +81,24 @@ walked_none t h b =
     }
 
 -- a refusal gets the number of its chunk
-abbrev pub Told : ℕ → Outcome Flow Refusal → Outcome Flow Refused → Type 0
+abbrev pub Told : ℕ → Outcome ChunkEnd Refusal → Outcome ChunkEnd Refused → Type 0
 Told k r m = MatchResult r (λ x. m ≡ Ok x) (λ f. IsErrAnd m (λ d. d ≡ record { chunk = k; refusal = f }))
 
-told_ok : (k : ℕ) (r : Outcome Flow Refusal) (m : Outcome Flow Refused) (a : Flow) → Told k r m → m ≡ Ok a → r ≡ Ok a
+told_ok : (k : ℕ) (r : Outcome ChunkEnd Refusal) (m : Outcome ChunkEnd Refused) (a : ChunkEnd) → Told k r m → m ≡ Ok a → r ≡ Ok a
 told_ok k (Ok x) m a w e = cc
 told_ok k (Err f) (Ok x) a w e = absurd w
 told_ok k (Err f) (Err d) a w e = absurd (cc)
 
-told_err : (k : ℕ) (r : Outcome Flow Refusal) (m : Outcome Flow Refused) (d : Refused) → Told k r m → m ≡ Err d → (f : Refusal) × (r ≡ Err f) × (d ≡ record { chunk = k; refusal = f })
+told_err : (k : ℕ) (r : Outcome ChunkEnd Refusal) (m : Outcome ChunkEnd Refused) (d : Refused) → Told k r m → m ≡ Err d → (f : Refusal) × (r ≡ Err f) × (d ≡ record { chunk = k; refusal = f })
 told_err k (Ok x) m d w e = absurd (cc)
 told_err k (Err f) (Ok x) d w e = absurd w
 told_err k (Err f) (Err c) d w e = (f, refl, cc)
 
-module _ (t h₀ b₀ h b : List ℕ) (k : ℕ) (W : WalkedTo t h₀ b₀ h b k) (below : k < count t 7) (r : Outcome Flow Refusal) (q : Standing)
-    (C : walked_of r q ≡ walk_chunk (chunk_of t k) (sheets_of h b)) where
+module _ (t h₀ b₀ h b : List ℕ) (k : ℕ) (W : WalkedTo t h₀ b₀ h b k) (below : k < count t 7) (r : Outcome ChunkEnd Refusal) (q : Standing)
+    (C : walked_of (flow_of r) q ≡ walk_chunk (chunk_of t k) (sheets_of h b)) where
   next_chunk :
       walk_all 0 (table_chunks t) (sheets_of h₀ b₀)
-      ≡ (in_chunk k (walked_of r q) >>= λ (w : Walked). walk_all (suc k) (tabulate (suc k) (count t 7 - (k + 1)) (chunk_of t)) w.sheets)
+      ≡ (in_chunk k (walked_of (flow_of r) q) >>= λ (w : Walked). walk_all (suc k) (tabulate (suc k) (count t 7 - (k + 1)) (chunk_of t)) w.sheets)
   unfolding walk_all tabulate
   next_chunk =
       W.on
@@ -110,14 +110,14 @@ module _ (t h₀ b₀ h b : List ℕ) (k : ℕ) (W : WalkedTo t h₀ b₀ h b k)
   walked_refused f e =
       sym
       (next_chunk
-      ∙ ap (λ (z : Outcome Flow Refusal). in_chunk k (walked_of z q) >>= λ (w : Walked). walk_all (suc k) (tabulate (suc k) (count t 7 - (k + 1)) (chunk_of t)) w.sheets) e
+      ∙ ap (λ (z : Outcome ChunkEnd Refusal). in_chunk k (walked_of (flow_of z) q) >>= λ (w : Walked). walk_all (suc k) (tabulate (suc k) (count t 7 - (k + 1)) (chunk_of t)) w.sheets) e
       ∙ go (fields f))
     where
       go : (ns : List ℕ) → (in_chunk k (refused ns) >>= λ (w : Walked). walk_all (suc k) (tabulate (suc k) (count t 7 - (k + 1)) (chunk_of t)) w.sheets) ≡ refused (with_chunk k ns)
       go [] = refl
       go (n ∷ ns) = refl
 
-  pub walked_more : (a : Flow) → r ≡ Ok a → length q.sheets.heights ≡ length h → length q.sheets.blinds ≡ length b → WalkedTo t h₀ b₀ q.sheets.heights q.sheets.blinds (k + 1)
+  pub walked_more : (a : ChunkEnd) → r ≡ Ok a → length q.sheets.heights ≡ length h → length q.sheets.blinds ≡ length b → WalkedTo t h₀ b₀ q.sheets.heights q.sheets.blinds (k + 1)
   unfolding in_chunk ◌>>=◌
   walked_more a z e f =
       record {
@@ -125,16 +125,16 @@ module _ (t h₀ b₀ h b : List ℕ) (k : ℕ) (W : WalkedTo t h₀ b₀ h b k)
         blinds_same = f ∙ W.blinds_same;
         on =
             next_chunk
-            ∙ ap (λ (z : Outcome Flow Refusal). in_chunk k (walked_of z q) >>= λ (w : Walked). walk_all (suc k) (tabulate (suc k) (count t 7 - (k + 1)) (chunk_of t)) w.sheets) z
+            ∙ ap (λ (z : Outcome ChunkEnd Refusal). in_chunk k (walked_of (flow_of z) q) >>= λ (w : Walked). walk_all (suc k) (tabulate (suc k) (count t 7 - (k + 1)) (chunk_of t)) w.sheets) z
             ∙ ap (λ (n : ℕ). walk_all n (tabulate n (count t 7 - (k + 1)) (chunk_of t)) q.sheets) (sym (add-one k));
       }
 
   -- and so with the number of the chunk
-  module _ (m : Outcome Flow Refused) (w : Told k r m) where
+  module _ (m : Outcome ChunkEnd Refused) (w : Told k r m) where
     pub told_refused : (d : Refused) → m ≡ Err d → refused (refused_numbers d) ≡ walk_all 0 (table_chunks t) (sheets_of h₀ b₀)
     told_refused d e = let z = told_err k r m d w e in rw z.2 (walked_refused z.0 z.1)
 
-    pub told_more : (a : Flow) → m ≡ Ok a → length q.sheets.heights ≡ length h → length q.sheets.blinds ≡ length b → WalkedTo t h₀ b₀ q.sheets.heights q.sheets.blinds (k + 1)
+    pub told_more : (a : ChunkEnd) → m ≡ Ok a → length q.sheets.heights ≡ length h → length q.sheets.blinds ≡ length b → WalkedTo t h₀ b₀ q.sheets.heights q.sheets.blinds (k + 1)
     told_more a e = walked_more a (told_ok k r m a w e)
 
 pub walked_all : (t h₀ b₀ h b : List ℕ) (k : ℕ) → count t 7 ≤ k → WalkedTo t h₀ b₀ h b k → ok (sheets_of h b) ≡ walk_all 0 (table_chunks t) (sheets_of h₀ b₀)

@@ -20,6 +20,7 @@ use Rattle.blocks.specs.declared.Breaks.{Breaks}
 use Rattle.blocks.specs.declared.visiting.Visit.{Visit}
 use Rattle.blocks.specs.Outcomes.{Standing, standing, within, walked_of, rest_of, left_of, loop_of, after_last, forgotten}
 use Rattle.blocks.specs.Visits.{Placed, visit_in}
+use Rattle.walk.specs.declared.ChunkEnd.{ChunkEnd}
 
 -- A stretch of a nested chunk: from ip on to the end of an arm, over a loop's floor.
 pub record Ready (x : Context) (heights blinds : List ℕ) (ip end floor : ℕ) : Type 0 where
@@ -93,9 +94,22 @@ pub record Roomy (t heights blinds : List ℕ) (k : ℕ) : Type 0 where
   pub blinds_long : first_op t k + op_count t k ≤ length blinds
   pub nested : Nested (chunk_of t k)
 
--- The walk of chunk k over these sheets is the definition's, with the state and breaks that it ends in.
-pub record WalkedChunk (t : List ℕ) (k : ℕ) (heights blinds : List ℕ) (r : Outcome Flow Refusal) (s : State) (b : Breaks) (heights' blinds' : List ℕ) : Type 0 where
-  pub walked : walked_of r (standing (locals_at t k) s b heights' blinds') ≡ walk_chunk (chunk_of t k) (sheets_of heights blinds)
+-- the flow of a chunk's end
+abbrev pub flow_of : Outcome ChunkEnd Refusal → Outcome Flow Refusal
+flow_of (Ok e) = Ok e.flow
+flow_of (Err r) = Err r
+
+-- A state and breaks are those in which a chunk ends, so far as the answer says.
+abbrev pub Ends : Outcome ChunkEnd Refusal → State → Breaks → Type 0
+Ends (Ok e) s b = (s.height ≡ e.height) × (b.pending ≡ e.pending) × (b.frame.state.height ≡ e.break_height)
+Ends (Err r) s b = Unit {0}
+
+-- The walk of chunk k over these sheets is the definition's, with the state and breaks in which it ends.
+pub record WalkedChunk (t : List ℕ) (k : ℕ) (heights blinds : List ℕ) (r : Outcome ChunkEnd Refusal) (heights' blinds' : List ℕ) : Type 0 where
+  pub state : State
+  pub breaks : Breaks
+  pub ends : Ends r state breaks
+  pub walked : walked_of (flow_of r) (standing (locals_at t k) state breaks heights' blinds') ≡ walk_chunk (chunk_of t k) (sheets_of heights blinds)
 
 -- the walk of all chunks, with the sheets that it leaves
 unfoldable pub results_of : Outcome Unit Refused → Sheets → Result Sheets

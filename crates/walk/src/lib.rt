@@ -267,32 +267,45 @@ pub fn last_pass(
     blocks::last_end(flow, s, head, b, ip, x.locals)
 }
 
-// The walk of chunk k, with room for the state and the breaks that it ends in, whatever they hold.
+// How the walk of a chunk ends, its height there, and the breaks around the chunk, of which a nested chunk has none: which, and the height of those that are joined.
+#[derive(Clone, Copy)]
+pub struct ChunkEnd {
+    pub flow: Flow,
+    pub height: usize,
+    pub pending: Pending,
+    pub break_height: usize,
+}
+
+// The walk of chunk k.
 #[tactic(auto, using(crate::proofs::Start::chunk_ready))]
 pub fn walk_chunk(
     t: &[u64],
     heights: &mut [u8],
     blinds: &mut [u8],
     k: usize,
-    s: &mut Frame,
-    b: &mut Breaks,
-) -> Result<Flow, Refusal>
+) -> Result<ChunkEnd, Refusal>
     requires { Roomy t.now heights.old blinds.old k }
-    ensures { WalkedChunk t.now k heights.old blinds.old result s.new.state b.new heights.new blinds.new }
+    ensures { WalkedChunk t.now k heights.old blinds.old result heights.new blinds.new }
 {
     let x = Context::new(t, k);
-    *s = Frame::new();
-    *b = Breaks::new();
-    blocks::start_locals(t, k, s, x.locals);
-    interp_region(
+    let mut s = Frame::new();
+    let mut b = Breaks::new();
+    blocks::start_locals(t, k, &mut s, x.locals);
+    let flow = interp_region(
         &x,
         heights,
         blinds,
-        s,
-        b,
+        &mut s,
+        &mut b,
         0..x.code.count,
         Floor { height: 0 },
-    )
+    )?;
+    Ok(ChunkEnd {
+        flow,
+        height: s.state.height,
+        pending: b.pending,
+        break_height: b.frame.state.height,
+    })
 }
 
 // The walk of all chunks: the first that is refused, with its number. A call of its own, as `nesting::check_nesting` is: neither's room lies on the stack beside the other's.
@@ -302,14 +315,9 @@ pub fn walk_chunks(t: &[u64], heights: &mut [u8], blinds: &mut [u8]) -> Result<(
     requires { (k : ℕ) → k < count t.now 7 → Roomy t.now heights.old blinds.old k }
     ensures { results_of result (sheets_of heights.new blinds.new) ≡ walk_all 0 (table_chunks t.now) (sheets_of heights.old blinds.old) }
 {
-    let mut s = Frame::new();
-    let mut b = Breaks::new();
     for k in 0..bytecode::count(t, bytecode::CHUNKS) {
         let chunk = k as u64;
-        walk_chunk(t, heights, blinds, k, &mut s, &mut b).map_err(|refusal| Refused {
-            chunk,
-            refusal,
-        })?;
+        walk_chunk(t, heights, blinds, k).map_err(|refusal| Refused { chunk, refusal })?;
     }
     Ok(())
 }

@@ -50,9 +50,7 @@ fn print_sheets(rt: &impl Print, heights: &[u8], blinds: &[u8]) -> io::Result<()
 fn show_walk(rt: &impl Print, t: &[u64], heights: &mut [u8], blinds: &mut [u8]) -> io::Result<()>
     requires { Roomy t.now heights.old blinds.old 0 }
 {
-    let mut s = Frame::new();
-    let mut b = Breaks::new();
-    let outcome = match walk::walk_chunk(t, heights, blinds, 0, &mut s, &mut b) {
+    let outcome = match walk::walk_chunk(t, heights, blinds, 0).map(|end| end.flow) {
         Ok(Flow::Ended) => "ended",
         Ok(Flow::Falls) => "fell through",
         Err(_) => "refused",
