@@ -19,8 +19,8 @@
  * limits can keep a check busy practically for ever (docs/BENCH.md). A controller needs a limit of its own: a watchdog,
  * or a process that it can end. A later version brings one. stagecheck_read and stagecheck_write walk nothing.
  *
- * Stack: allow 1 MiB. Measured, the whole program's: eight nested loops 396 KiB, with lent tables 224; eight nested Ifs
- * 284 KiB, with lent tables 112 (docs/BENCH.md). stagecheck_text has its tables on the stack too, and two sheets, 8 KiB
+ * Stack: allow 1 MiB. Measured, the whole program's: eight nested loops 372 KiB, with lent tables 200; eight nested Ifs
+ * 260 KiB, with lent tables 84 (docs/BENCH.md). stagecheck_text has its tables on the stack too, and two sheets, 8 KiB
  * more. Some C libraries give a thread less: musl 128 KiB, too little for any call with tables of its own, and with lent
  * ones for nested loops. Make such a thread with a larger stack. A stack that is too small ends the program at the
  * guard page: each frame touches its pages in turn, so that none passes over it.
