@@ -84,7 +84,7 @@
 //!
 //! A call always ends, but there is no limit of time: loops in loops multiply the passes of the walk, and a listing
 //! within all limits can keep a check busy practically for ever. Where listings come from strangers, call in a process
-//! that can be ended. Reading and writing walk nothing. A check needs up to 224 KiB of stack, measured; threads of Rust have 2 MiB unless told
+//! that can be ended. Reading and writing walk nothing. A check needs up to 200 KiB of stack, measured; threads of Rust have 2 MiB unless told
 //! otherwise. The library is for x86-64 Linux.
 
 // `forbid` at the root cannot be lifted for `sys`: so the root denies, and every other module forbids.
